@@ -7,7 +7,7 @@
 # with one another.
 . "$(dirname "$(readlink -f "$0")")/start.sh"
 
-below='pcc_base index_lists puzzle_board puzzle_choices puzzle_solver'
+below='pcc_base index_lists puzzle_board puzzle_solver'
 mkdir -p "$room/crates/boards/src" && cd "$room" && git init -q . || exit 1
 for crate in $below; do
     (cd "$top/crates" && tar c --exclude=out --exclude=must-fail "$crate") | tar x -C crates || exit 1

@@ -8,8 +8,8 @@
 . "$(dirname "$(readlink -f "$0")")/start.sh"
 
 case "$*" in
-'') calls='c_front c_types' ;;
-reading) calls='c_front' ;;
+'') calls='c_parse c_check' ;;
+reading) calls='c_parse' ;;
 *) echo 'usage: bench/front.sh [reading]' >&2; exit 2 ;;
 esac
 
@@ -46,15 +46,15 @@ echo "reading: $below" >>crates.txt
 
 # the program; the lines that begin with `@` stand in it where typing does, and those that begin with `#` where it
 # doesn't
-case "$calls" in *c_types*) typing='s/^@//;/^#  /d' ;; *) typing='/^@/d;s/^#  /  /' ;; esac
+case "$calls" in *c_check*) typing='s/^@//;/^#  /d' ;; *) typing='/^@/d;s/^#  /  /' ;; esac
 sed "$typing" >crates/reading/src/main.rt <<'PROGRAM'
 //! Reads a file as far as the first byte of another one says, 1 for its tokens, 2 for its raw tree, 3 for its typed
 //! program, prints how long each pass takes, and leaves what the system tells of its memory at the end.
 #![tactic(auto)]
 
-use c_lexer::lex;
-use c_front::parse;
-@use c_types::check;
+use c_lex::lex;
+use c_parse::parse;
+@use c_check::check;
 use pcc_base::Span;
 use std::time::Instant;
 use std::{fs, io};
@@ -134,7 +134,7 @@ import sys
 
 PROGRAM, CALLS = sys.argv[1:]
 RUNS = 7
-PASSES = ["lex", "parse", "check"] if "c_types" in CALLS else ["lex", "parse"]
+PASSES = ["lex", "parse", "check"] if "c_check" in CALLS else ["lex", "parse"]
 
 # functions like those of a person, of 111 tokens
 BODY = """static int function_%d(int first, const char *second)

@@ -4,18 +4,18 @@
 . "$(dirname "$(readlink -f "$0")")/start.sh"
 
 mkdir -p "$room/crates/lexing/src" && cd "$room" && git init -q . || exit 1
-for crate in pcc_base c_tokens c_lexer; do
+for crate in pcc_base c_lex; do
     (cd "$top/crates" && tar c --exclude=out --exclude=must-fail "$crate") | tar x -C crates || exit 1
 done
 cp "$top/HANDLES" . || exit 1
-grep -E '^(pcc_base|c_tokens|c_lexer):' "$top/crates.txt" >crates.txt
-echo 'lexing: pcc_base c_tokens c_lexer' >>crates.txt
+grep -E '^(pcc_base|c_lex):' "$top/crates.txt" >crates.txt
+echo 'lexing: pcc_base c_lex' >>crates.txt
 
 cat >crates/lexing/src/main.rt <<'PROGRAM'
 //! Reads a file, and prints how long its tokens take.
 #![tactic(auto)]
 
-use c_lexer::lex;
+use c_lex::lex;
 use std::time::Instant;
 use std::{fs, io};
 

@@ -5,14 +5,14 @@
 # that proves nothing, and checks each access to memory, so the figures are for comparison with one another.
 . "$(dirname "$(readlink -f "$0")")/start.sh"
 
-below='pcc_base index_lists flow_graph liveness'
+below='pcc_base index_lists flow_graph flow_liveness'
 mkdir -p "$room/crates/living/src" && cd "$room" && git init -q . || exit 1
 for crate in $below; do
     (cd "$top/crates" && tar c --exclude=out --exclude=must-fail "$crate") | tar x -C crates || exit 1
     grep -E "^$crate:" "$top/crates.txt" >>crates.txt || exit 1
 done
 cp "$top/HANDLES" . || exit 1
-echo 'living: pcc_base flow_graph liveness' >>crates.txt
+echo 'living: pcc_base flow_graph flow_liveness' >>crates.txt
 : >crates/living/stdin
 
 cat >crates/living/src/main.rt <<'PROGRAM'

@@ -18,7 +18,7 @@ for line in open(sys.argv[1] + "/crates.txt"):
     if found:
         below[found[1]] = found[2].split()
 wanted = set()
-left = "c_lexer c_program lower ia32_frames ia32_functions".split()
+left = "c_lex c_front lower ia32_select".split()
 while left:
     name = left.pop()
     if name in below and name not in wanted:
@@ -37,12 +37,11 @@ cat >crates/lowering/src/main.rt <<'PROGRAM'
 //! Lowers the program of each file that a word names, and prints what comes of it.
 #![tactic(auto)]
 
-use c_lexer::lex;
-use c_program::typed_program;
+use c_lex::lex;
+use c_front::typed_program;
 use c_tree::Program;
 use flow_graph::{Graph, Op};
-use ia32_frames::Frame;
-use ia32_functions::select_function;
+use ia32_select::{Frame, select_function};
 use ia32_insn::Item;
 use lower::lower;
 use pcc_base::NoMemory;

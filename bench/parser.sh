@@ -4,7 +4,7 @@
 # earlier checks kept of the crates is copied with them: call `rt all check` first.
 . "$(dirname "$(readlink -f "$0")")/start.sh"
 
-below='pcc_base c_tokens c_lexer c_tree c_syntax c_typing c_sound c_cursor c_parse_expressions c_parse_declarations c_parse_statements c_front'
+below='pcc_base c_lex c_syntax c_parse_expressions c_parse'
 mkdir -p "$room/crates/parsing/src" && cd "$room" && git init -q . || exit 1
 for crate in $below; do
     (cd "$top/crates" && tar c --exclude=must-fail "$crate") | tar x -C crates || exit 1
@@ -17,8 +17,8 @@ cat >crates/parsing/src/main.rt <<'PROGRAM'
 //! Reads two files, and prints how long the tokens and the tree of each take.
 #![tactic(auto)]
 
-use c_lexer::lex;
-use c_front::parse;
+use c_lex::lex;
+use c_parse::parse;
 use pcc_base::Span;
 use std::time::Instant;
 use std::{fs, io};

@@ -4,7 +4,7 @@ use Rattle.std.proofs.Common.{arith, ◌∙◌}
 use Rattle.std.specs.Prelude.{slice_get}
 use Rattle.std.proofs.lemmas.Option.{none-some, same_Some}
 use Rattle.flow_graph.specs.Sizes.{array_bytes}
-use Rattle.allocator_boards.specs.PointMaps.{bytes_of_arrays}
+use Rattle.allocator.specs.PointMaps.{bytes_of_arrays}
 
 first-sum : (m n : ℕ) → m ≡ n → m + 0 ≡ 0 + n
 first-sum m n e = omega arith

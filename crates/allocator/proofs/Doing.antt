@@ -15,15 +15,15 @@ use Rattle.puzzle_board.specs.declared.piece.Piece.{Piece}
 use Rattle.puzzle_board.specs.declared.piece.Spot.{Spot}
 use Rattle.puzzle_board.specs.Placements.{IsLegalPlacement, Standing}
 use Rattle.puzzle_board.specs.Places.{Entry, PlaceMap, entries_at, no_places, place_in, spilled_at, with_frame}
-use Rattle.allocator_boards.specs.PointBoards.{areas_of, point_pieces}
-use Rattle.allocator_boards.specs.PointMaps.{FrameUse, InSlot, IsLegalMap, IsLegalPoint, bytes_of_arrays, cells_of}
-use Rattle.allocator_boards.specs.PointMaps.{both_cells, spot_on, standing_at, standings_of, unspilled}
-use Rattle.allocator_boards.specs.SplitForms.{Form, IsForm}
+use Rattle.allocator.specs.PointBoards.{areas_of, point_pieces}
+use Rattle.allocator.specs.PointMaps.{FrameUse, InSlot, IsLegalMap, IsLegalPoint, bytes_of_arrays, cells_of}
+use Rattle.allocator.specs.PointMaps.{both_cells, spot_on, standing_at, standings_of, unspilled}
+use Rattle.allocator.specs.SplitForms.{Form, IsForm}
 use Rattle.allocator.specs.Allocations.{IsAllocation, NothingFirst}
 use Rattle.allocator.specs.Progress.{IsDoneTo, IsEmptyAt}
 use Rattle.allocator.specs.Sides.{ChangesPoint}
-use Rattle.allocator_boards.specs.Slots.{AreGiven, AreSlots, AreSpilled, HasSlot, slot_in, slots_given}
-use Rattle.allocator_boards.specs.Spills.{IsSpilledAt}
+use Rattle.allocator.specs.Slots.{AreGiven, AreSlots, AreSpilled, HasSlot, slot_in, slots_given}
+use Rattle.allocator.specs.Spills.{IsSpilledAt}
 
 -- ---- what a point has stays while others change
 

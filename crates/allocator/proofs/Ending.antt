@@ -15,16 +15,16 @@ use Rattle.puzzle_board.specs.declared.piece.Piece.{Piece}
 use Rattle.puzzle_board.specs.declared.piece.Spot.{Spot}
 use Rattle.puzzle_board.specs.declared.place.Place.{Place}
 use Rattle.puzzle_board.specs.Places.{Entry, PlaceMap, entries_at}
-use Rattle.allocator_boards.specs.PointBoards.{areas_of, fixed_result, fixed_use, point_pieces, with_result}
-use Rattle.allocator_boards.specs.PointMaps.{IsLegalPoint}
-use Rattle.allocator_boards.specs.SplitForms.{Form, IsForm}
-use Rattle.allocator_boards.specs.PointPuzzles.{pair_of, pieces_at}
+use Rattle.allocator.specs.PointBoards.{areas_of, fixed_result, fixed_use, point_pieces, with_result}
+use Rattle.allocator.specs.PointMaps.{IsLegalPoint}
+use Rattle.allocator.specs.SplitForms.{Form, IsForm}
+use Rattle.allocator.specs.PointPuzzles.{pair_of, pieces_at}
 use Rattle.allocator.specs.Progress.{IsDoneTo}
 use Rattle.allocator.specs.Sides.{ArePut, ChangesPoint, is_lower, is_upper, with_fixed}
-use Rattle.allocator_boards.specs.Slots.{AreGiven, AreSpilled}
-use Rattle.allocator_boards.specs.Solutions.{ArePlaces, AreSpots}
-use Rattle.allocator_boards.specs.Spills.{HasPiece, IsSpilledAt}
-use Rattle.allocator_boards.proofs.Ordered.{all-of, vars-within}
+use Rattle.allocator.specs.Slots.{AreGiven, AreSpilled}
+use Rattle.allocator.specs.Solutions.{ArePlaces, AreSpots}
+use Rattle.allocator.specs.Spills.{HasPiece, IsSpilledAt}
+use Rattle.allocator.proofs.Ordered.{all-of, vars-within}
 use Rattle.allocator.proofs.Doing.{done-more, slots-here, spilled-here}
 use Rattle.allocator.proofs.Points.{point-legal}
 

@@ -9,9 +9,9 @@ use Rattle.std.proofs.lemmas.List.{append-nil, get_or-set_other, get_or-set_same
 use Rattle.std.proofs.lemmas.List.Sums.{sum_by-set, count_by-le-length}
 use Rattle.std.proofs.lemmas.Option.{get_or_from_slice_get, none-some, same_Some}
 use Rattle.flow_graph.specs.Graphs.{IsIn}
-use Rattle.elementary_form.proofs.Naming.{in-either, in-left, in-right}
+use Rattle.flow_liveness.proofs.Naming.{in-either, in-left, in-right}
 use Rattle.puzzle_board.specs.Places.{PlaceMap, spilled_at, with_spilled}
-use Rattle.allocator_boards.specs.Slots.{AreGiven, AreSlots, AreSpilled, HasSlot, offset_of, slot_in, slots_given}
+use Rattle.allocator.specs.Slots.{AreGiven, AreSlots, AreSpilled, HasSlot, offset_of, slot_in, slots_given}
 
 -- ---- one slot
 

@@ -1,3 +1,10 @@
+pub mod Fixing
+pub mod LegalExample
+pub mod Listing
+pub mod OneMore
+pub mod Ordered
+pub mod Placing
+pub mod Solving
 pub mod Bytes
 pub mod Doing
 pub mod Ending

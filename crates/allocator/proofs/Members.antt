@@ -10,11 +10,11 @@ use Rattle.flow_graph.specs.Liveness.{defined}
 use Rattle.flow_graph.specs.Lives.{Lives, at_point}
 use Rattle.puzzle_board.specs.declared.piece.Kind.TheVariants.{Z}
 use Rattle.puzzle_board.specs.declared.piece.Piece.{Piece}
-use Rattle.elementary_form.specs.Names.{is_named}
-use Rattle.allocator_boards.specs.PointBoards.{fixed_result, fixed_use, fixed_variable, if_so, piece_of, pieces_of_all}
-use Rattle.allocator_boards.specs.PointBoards.{pieces_of_variable, point_pieces, use_kind, with_result}
-use Rattle.elementary_form.proofs.Naming.{equal-test, in-test}
-use Rattle.allocator_boards.proofs.OneMore.{in-one, in-one-old, in-one-self}
+use Rattle.flow_liveness.specs.Names.{is_named}
+use Rattle.allocator.specs.PointBoards.{fixed_result, fixed_use, fixed_variable, if_so, piece_of, pieces_of_all}
+use Rattle.allocator.specs.PointBoards.{pieces_of_variable, point_pieces, use_kind, with_result}
+use Rattle.flow_liveness.proofs.Naming.{equal-test, in-test}
+use Rattle.allocator.proofs.OneMore.{in-one, in-one-old, in-one-self}
 
 -- ---- members by number
 

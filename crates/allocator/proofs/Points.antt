@@ -20,19 +20,19 @@ use Rattle.puzzle_board.specs.declared.place.Place.TheVariants.{Cells, Slot}
 use Rattle.puzzle_board.specs.Placements.{IsLegalPlacement, Standing}
 use Rattle.puzzle_board.specs.Places.{Entry, IsRising, PlaceMap, entries_at, place_in, spilled_at, with_place}
 use Rattle.puzzle_board.proofs.Sides.{rising-with}
-use Rattle.elementary_form.specs.Names.{is_named}
-use Rattle.allocator_boards.specs.PointBoards.{Fixed, areas_of, fixed_result, fixed_use, fixed_variable, piece_of}
-use Rattle.allocator_boards.specs.PointBoards.{point_pieces, use_kind, with_result}
-use Rattle.allocator_boards.specs.PointMaps.{InSlot, IsLegalPoint, SpilledInSlots, both_cells, cells_of, place_after}
-use Rattle.allocator_boards.specs.PointMaps.{place_before, same_columns, same_spot, spot_on, standing_at, standings_of}
-use Rattle.allocator_boards.specs.PointMaps.{unspilled}
-use Rattle.elementary_form.proofs.Naming.{equal-test, in-test, test-in}
-use Rattle.allocator_boards.specs.PointPuzzles.{pair_of}
-use Rattle.allocator_boards.proofs.Fixing.{fixed-defined, fixed-dies, fixed-used}
-use Rattle.allocator_boards.proofs.OneMore.{ascending-result}
+use Rattle.flow_liveness.specs.Names.{is_named}
+use Rattle.allocator.specs.PointBoards.{Fixed, areas_of, fixed_result, fixed_use, fixed_variable, piece_of}
+use Rattle.allocator.specs.PointBoards.{point_pieces, use_kind, with_result}
+use Rattle.allocator.specs.PointMaps.{InSlot, IsLegalPoint, SpilledInSlots, both_cells, cells_of, place_after}
+use Rattle.allocator.specs.PointMaps.{place_before, same_columns, same_spot, spot_on, standing_at, standings_of}
+use Rattle.allocator.specs.PointMaps.{unspilled}
+use Rattle.flow_liveness.proofs.Naming.{equal-test, in-test, test-in}
+use Rattle.allocator.specs.PointPuzzles.{pair_of}
+use Rattle.allocator.proofs.Fixing.{fixed-defined, fixed-dies, fixed-used}
+use Rattle.allocator.proofs.OneMore.{ascending-result}
 use Rattle.allocator.specs.Sides.{ArePut, is_lower, is_upper, with_fixed}
-use Rattle.allocator_boards.specs.Slots.{slot_in}
-use Rattle.allocator_boards.specs.Solutions.{ArePlaces, AreSpots, standing_by}
+use Rattle.allocator.specs.Slots.{slot_in}
+use Rattle.allocator.specs.Solutions.{ArePlaces, AreSpots, standing_by}
 use Rattle.allocator.proofs.Members.{Has, IsMade, IsUse, in-with-result, made-there, named-some, piece-is, result-in}
 use Rattle.allocator.proofs.Members.{some-named, use-there}
 use Rattle.allocator.proofs.Putting.{name-placed, names-ascend, names_of, place-other, place-same, placed-name}

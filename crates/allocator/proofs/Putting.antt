@@ -10,7 +10,7 @@ use Rattle.std.proofs.lemmas.Option.{none-some, same_Some, slice_get-get_or}
 use Rattle.flow_graph.specs.Graphs.{IsIn}
 use Rattle.flow_graph.specs.Lives.{IsAscending}
 use Rattle.flow_graph.proofs.Points.{every-in}
-use Rattle.elementary_form.proofs.Naming.{equal-test, other-test}
+use Rattle.flow_liveness.proofs.Naming.{equal-test, other-test}
 use Rattle.puzzle_board.specs.declared.piece.Kind.{Kind}
 use Rattle.puzzle_board.specs.declared.piece.Kind.TheVariants.{X, Y, Z}
 use Rattle.puzzle_board.specs.declared.piece.Piece.{Piece}
@@ -18,9 +18,9 @@ use Rattle.puzzle_board.specs.declared.place.Place.{Place}
 use Rattle.puzzle_board.specs.Places.{Entry, IsRising, PlaceMap, entries_at, place_in, with_after, with_before}
 use Rattle.puzzle_board.specs.Places.{with_place}
 use Rattle.puzzle_board.proofs.Sides.{rising-with}
-use Rattle.allocator_boards.specs.Order.{AreInOrder, Precedes}
+use Rattle.allocator.specs.Order.{AreInOrder, Precedes}
 use Rattle.allocator.specs.Sides.{ArePut, ChangesPoint, is_lower, is_upper, with_kind}
-use Rattle.allocator_boards.proofs.Listing.{order-at}
+use Rattle.allocator.proofs.Listing.{order-at}
 
 -- ---- what is found once a variable has a place
 

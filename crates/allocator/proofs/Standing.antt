@@ -8,8 +8,8 @@ use Rattle.pcc_base.proofs.Lists.{get-append, get-last}
 use Rattle.puzzle_board.specs.declared.piece.Piece.{Piece}
 use Rattle.puzzle_board.specs.declared.piece.Spot.{Spot}
 use Rattle.puzzle_board.specs.declared.place.Place.{Place}
-use Rattle.allocator_boards.specs.Slots.{slot_in}
-use Rattle.allocator_boards.specs.Solutions.{ArePlaces, StandsIn}
+use Rattle.allocator.specs.Slots.{slot_in}
+use Rattle.allocator.specs.Solutions.{ArePlaces, StandsIn}
 
 -- the places of the first n pieces
 pub record ArePlacesTo

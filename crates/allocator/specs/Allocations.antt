@@ -4,9 +4,9 @@ use Rattle.flow_graph.specs.declared.op.Op.{Op}
 use Rattle.flow_graph.specs.Graphs.{Flow, IsPlaced}
 use Rattle.flow_graph.specs.Liveness.{BeginsWith, IsLiveBefore}
 use Rattle.puzzle_board.specs.Places.{PlaceMap, entries_at, spilled_at}
-use Rattle.allocator_boards.specs.PointMaps.{FrameUse, IsLegalPoint}
-use Rattle.allocator_boards.specs.SplitForms.{Form}
-use Rattle.allocator_boards.specs.Spills.{IsSpilledAt}
+use Rattle.allocator.specs.PointMaps.{FrameUse, IsLegalPoint}
+use Rattle.allocator.specs.SplitForms.{Form}
+use Rattle.allocator.specs.Spills.{IsSpilledAt}
 
 -- nothing is live before the first point of the function
 abbrev pub NothingFirst : Flow → Type 0

@@ -1,3 +1,12 @@
+pub mod Order
+pub mod PointBoards
+pub mod PointMaps
+pub mod PointPuzzles
+pub mod Slots
+pub mod Solutions
+pub mod Spills
+pub mod SplitForms
+pub mod WorkedBoards
 pub mod Allocations
 pub mod Sides
 pub mod Progress

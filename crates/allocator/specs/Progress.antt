@@ -3,10 +3,10 @@ use Rattle.std.specs.Prelude.{ℕ, ◌≡◌, ◌<◌, ◌≤◌, ◌↔◌, [],
 use Rattle.flow_graph.specs.declared.op.Op.{Op}
 use Rattle.flow_graph.specs.Graphs.{IsIn, IsPlaced}
 use Rattle.puzzle_board.specs.Places.{PlaceMap, entries_at, spilled_at}
-use Rattle.allocator_boards.specs.PointMaps.{IsLegalPoint}
-use Rattle.allocator_boards.specs.SplitForms.{Form}
-use Rattle.allocator_boards.specs.Slots.{AreSlots, HasSlot}
-use Rattle.allocator_boards.specs.Spills.{IsSpilledAt}
+use Rattle.allocator.specs.PointMaps.{IsLegalPoint}
+use Rattle.allocator.specs.SplitForms.{Form}
+use Rattle.allocator.specs.Slots.{AreSlots, HasSlot}
+use Rattle.allocator.specs.Spills.{IsSpilledAt}
 
 -- a point without places, at which nothing is spilled
 pub record IsEmptyAt (places : PlaceMap) (point : ℕ) : Type 0 where

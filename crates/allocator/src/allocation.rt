@@ -1,20 +1,21 @@
 //! The map of a graph.
 
 ghost use Rattle.std.specs.Prelude.{◌≡◌, ◌<◌, ◌+◌, ◌*◌, IfOk, OnOk, length};
-ghost use Rattle.allocator_boards.specs.PointMaps.{IsLegalMap, bytes_of_arrays};
+ghost use Rattle.allocator.specs.PointMaps.{IsLegalMap, bytes_of_arrays};
 ghost use Rattle.flow_graph.specs.Graphs.{IsPlaced};
-ghost use Rattle.liveness.specs.Distances.{AreDistances};
+ghost use Rattle.flow_liveness.specs.Distances.{AreDistances};
 ghost use Rattle.allocator.specs.Allocations.{IsAllocation, NothingFirst};
 ghost use Rattle.allocator.specs.Progress.{IsDoneTo};
-ghost use Rattle.allocator_boards.specs.Slots.{slots_given};
+ghost use Rattle.allocator.specs.Slots.{slots_given};
 
+use crate::elementary::Elementary;
+use crate::fixed::{fixed_result, fixed_use};
 use crate::frame::bytes_of_arrays;
-use crate::pieces_of;
-use crate::places::{places_of, put_fixed, put_pieces};
-use crate::slots::spill_all;
-use allocator_boards::{Elementary, fixed_result, fixed_use};
-use allocator_points::solve_point;
-use liveness::Distances;
+use crate::given_slots::spill_all;
+use crate::piece_places::{places_of, put_fixed, put_pieces};
+use crate::point_pieces::pieces_of;
+use crate::solution::solve_point;
+use flow_liveness::Distances;
 use pcc_base::NoMemory;
 use puzzle_board::PointMap;
 use std::alloc::Global;

@@ -2,7 +2,7 @@
 
 ghost use Rattle.std.specs.Prelude.{◌≡◌, ◌<◌};
 ghost use Rattle.flow_graph.specs.Sizes as sizes;
-ghost use Rattle.allocator_boards.specs.PointMaps.{bytes_of_arrays};
+ghost use Rattle.allocator.specs.PointMaps.{bytes_of_arrays};
 
 use flow_graph::Graph;
 

@@ -17,12 +17,12 @@ use Rattle.pcc_base.specs.declared.fault.FaultKind.TheVariants as kinds
 use Rattle.c_typing.specs.Faults.{least}
 use Rattle.c_typing.specs.Initialisers.{no_values}
 use Rattle.c_typing.specs.Names.{Scope}
-use Rattle.c_operands.specs.declared.judged.Judged.{Judged}
-use Rattle.c_operands.specs.declared.judged.Judged.TheVariants as answers
-use Rattle.c_expressions.specs.Said.{IsSaid}
-use Rattle.c_check_declarators.specs.Forms.{letters_in, values_by}
-use Rattle.c_check_declarators.proofs.Strings.{no_letters}
-use Rattle.c_check_declarations.specs.Answers.{AreItem, IsInitialiser}
+use Rattle.c_check_expressions.specs.declared.judged.Judged.{Judged}
+use Rattle.c_check_expressions.specs.declared.judged.Judged.TheVariants as answers
+use Rattle.c_check_expressions.specs.Said.{IsSaid}
+use Rattle.c_check_declarations.specs.Forms.{letters_in, values_by}
+use Rattle.c_check_declarations.proofs.Strings.{no_letters}
+use Rattle.c_check_declarations.specs.ItemAnswers.{AreItem, IsInitialiser}
 
 -- an expression that initialises no array is a fault, whatever it would have been
 fails_answered : {X A : Type 0} (R : X → A → Type 0) (c : Checked Expression) (kind : FaultKind) (at : Span)

@@ -16,19 +16,19 @@ use Rattle.c_typing.specs.Statements.{after_item, after_items, bound_item, objec
 use Rattle.c_typing.specs.Statements.{sized_item, typed_item, typed_items}
 use Rattle.c_typing.specs.Types as types
 use Rattle.c_typing.specs.Types.{is_static}
-use Rattle.c_bindings.specs.declared.meaning.Declared.{Declared}
-use Rattle.c_bindings.specs.Views.{declared_of}
-use Rattle.c_operands.specs.declared.judged.Judged.{Judged}
-use Rattle.c_operands.specs.declared.judged.Judged.TheVariants as answers
-use Rattle.c_expressions.specs.Said.{IsSaid}
-use Rattle.c_check_declarators.specs.declared.objects.ObjectType.{ObjectType}
-use Rattle.c_check_declarators.specs.Answers.{IsDeclared, IsObject, IsSpecified, value_answered}
-use Rattle.c_check_declarators.specs.Together.{listed, with_fault}
-use Rattle.c_check_declarators.specs.Views.{object_of}
-use Rattle.c_check_declarators.proofs.Lists.{rejoined}
-use Rattle.c_check_declarators.proofs.Rows.{also_said, answered_is, fails_said, then_said}
-use Rattle.c_check_declarators.proofs.Scoped.{value_fails, value_then}
-use Rattle.c_check_declarations.specs.Answers.{AreItem, AreItems}
+use Rattle.c_check_names.specs.declared.meaning.Declared.{Declared}
+use Rattle.c_check_names.specs.Views.{declared_of}
+use Rattle.c_check_expressions.specs.declared.judged.Judged.{Judged}
+use Rattle.c_check_expressions.specs.declared.judged.Judged.TheVariants as answers
+use Rattle.c_check_expressions.specs.Said.{IsSaid}
+use Rattle.c_check_declarations.specs.declared.objects.ObjectType.{ObjectType}
+use Rattle.c_check_declarations.specs.DeclaratorAnswers.{IsDeclared, IsObject, IsSpecified, value_answered}
+use Rattle.c_check_declarations.specs.Together.{listed, with_fault}
+use Rattle.c_check_declarations.specs.Views.{object_of}
+use Rattle.c_check_declarations.proofs.Lists.{rejoined}
+use Rattle.c_check_declarations.proofs.Rows.{also_said, answered_is, fails_said, then_said}
+use Rattle.c_check_declarations.proofs.Scoped.{value_fails, value_then}
+use Rattle.c_check_declarations.specs.ItemAnswers.{AreItem, AreItems}
 
 -- where a run ends well, what is known of it
 pub on_ok : {A E : Type 0} (r : Result A E) (P Q : Type 0) → (P → Q) → OnOk r P → OnOk r Q

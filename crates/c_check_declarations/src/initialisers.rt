@@ -21,20 +21,21 @@ ghost use Rattle.c_typing.specs.Initialisers.{
   scalar_values,
 };
 ghost use Rattle.c_typing.specs.Names.{object_number};
-ghost use Rattle.c_expressions.specs.Arguments.{AreTrees};
-ghost use Rattle.c_expressions.specs.Notes.{contents_of};
-ghost use Rattle.c_expressions.specs.Said.{IsSaid};
-ghost use Rattle.c_check_declarators.specs.Answers.{AreSame};
-ghost use Rattle.c_check_declarations.specs.Answers.{IsContents, IsInitialiser, IsTreeIfAny};
+ghost use Rattle.c_check_expressions.specs.Arguments.{AreTrees};
+ghost use Rattle.c_check_expressions.specs.Notes.{contents_of};
+ghost use Rattle.c_check_expressions.specs.Said.{IsSaid};
+ghost use Rattle.c_check_declarations.specs.DeclaratorAnswers.{AreSame};
+ghost use Rattle.c_check_declarations.specs.ItemAnswers.{IsContents, IsInitialiser, IsTreeIfAny};
 ghost use Rattle.c_check_declarations.specs.Letters.{letters_fault};
-ghost use Rattle.c_check_declarators.specs.Views.{object_of};
+ghost use Rattle.c_check_declarations.specs.Views.{object_of};
 
-use c_check_declarators::{ObjectType, letters_in, text_length};
-use c_check_labels::{constants, no_values, trees};
-use c_expressions::texts::{text_entity, text_note, text_values};
-use c_expressions::{Contents, Notes, first_piece};
-use c_operands::Judged;
-use c_scopes::Scopes;
+use crate::forms::letters_in;
+use crate::initial_values::{constants, no_values, trees};
+use crate::objects::ObjectType;
+use crate::sizes::text_length;
+use c_check_expressions::texts::{text_entity, text_note, text_values};
+use c_check_expressions::{Contents, Judged, Notes, first_piece};
+use c_check_names::Scopes;
 use c_syntax::{Expression, Initialiser, InitialiserPart, TextPiece};
 use c_tree::{Expression as Tree, Initialiser as First, IntegerType, ValueType};
 use pcc_base::{Fault, FaultKind, NoMemory};

@@ -26,29 +26,27 @@ ghost use Rattle.c_typing.specs.Statements.{
   typed_items,
 };
 ghost use Rattle.c_typing.specs.Types.{is_static};
-ghost use Rattle.c_bindings.specs.Views.{declared_of, entity_of, storage_of};
-ghost use Rattle.c_expressions.specs.Said.{IsSaid};
-ghost use Rattle.c_check_declarators.specs.Answers.{IsObject, value_answered};
-ghost use Rattle.c_check_declarations.specs.Answers.{
+ghost use Rattle.c_check_names.specs.Views.{declared_of, entity_of, storage_of};
+ghost use Rattle.c_check_expressions.specs.Said.{IsSaid};
+ghost use Rattle.c_check_declarations.specs.DeclaratorAnswers.{IsObject, value_answered};
+ghost use Rattle.c_check_declarations.specs.ItemAnswers.{
   AreItem,
   AreItems,
   IsAnything,
   IsInitialiser,
   IsTreeIfAny,
 };
-ghost use Rattle.c_check_declarators.specs.Together.{listed};
-ghost use Rattle.c_check_declarators.specs.Views.{object_of, position_of, specified_of};
+ghost use Rattle.c_check_declarations.specs.Together.{listed};
+ghost use Rattle.c_check_declarations.specs.Views.{object_of, position_of, specified_of};
 
+use crate::answers::{also, maybe_behind};
 use crate::initialisers::{array_initialiser, scalar_initialiser};
+use crate::objects::{ObjectType, bind_object, object_allowed, type_fault};
+use crate::sizes::object_declared;
+use crate::specifiers::{Position, Specified, specifiers_at};
 use crate::stored::stored_object;
-use c_bindings::{Declared, Entity, Storage};
-use c_check_declarators::{
-    ObjectType, Position, Specified, also, bind_object, maybe_behind, object_allowed,
-    object_declared, specifiers_at, type_fault,
-};
-use c_expressions::{Contents, Notes};
-use c_operands::Judged;
-use c_scopes::Scopes;
+use c_check_expressions::{Contents, Judged, Notes};
+use c_check_names::{Declared, Entity, Scopes, Storage};
 use c_syntax::{Declaration, Identifier, InitialiserPart, Item as RawItem};
 use c_tree::{Expression, Initialiser, IntegerType, Item, ValueType};
 use pcc_base::{Fault, FaultKind, NoMemory};

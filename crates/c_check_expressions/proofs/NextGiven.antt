@@ -4,7 +4,7 @@ use Rattle.std.specs.Prelude.{slice_index_or}
 use Rattle.std.proofs.lemmas.List.{drop-map, drop_all}
 use Rattle.c_syntax.specs.declared.expression.Expression.{Expression as Raw}
 use Rattle.c_typing.specs.Names.{Scope}
-use Rattle.c_expressions.specs.Arguments.{given_of}
+use Rattle.c_check_expressions.specs.Arguments.{given_of}
 
 pub next_given : (s : Scope) (es : List Raw) (i : ℕ) (e : Raw) → i < length es → e ≡ slice_index_or es i e
     → drop i (map (given_of s) es) ≡ given_of s e ∷ drop (suc i) (map (given_of s) es)

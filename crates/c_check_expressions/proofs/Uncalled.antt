@@ -9,12 +9,12 @@ use Rattle.c_tree.specs.Program.{Arguments}
 use Rattle.c_typing.specs.Checked.{Checked, Fails, Note, faults_in}
 use Rattle.c_typing.specs.Expressions.{Given, arguments_for, called, not_called}
 use Rattle.c_typing.specs.Names.{Meaning, Scope}
-use Rattle.c_operands.specs.declared.judged.Operand.{Operand}
-use Rattle.c_operands.specs.declared.judged.Judged.{Judged}
-use Rattle.c_operands.specs.Judged.{IsOperandOf}
-use Rattle.c_operands.specs.Parts.{Stands}
-use Rattle.c_expressions.specs.Arguments.{AreArguments}
-use Rattle.c_expressions.specs.Said.{IsSaid}
+use Rattle.c_check_expressions.specs.declared.judged.Operand.{Operand}
+use Rattle.c_check_expressions.specs.declared.judged.Judged.{Judged}
+use Rattle.c_check_expressions.specs.Judged.{IsOperandOf}
+use Rattle.c_check_expressions.specs.Parts.{Stands}
+use Rattle.c_check_expressions.specs.Arguments.{AreArguments}
+use Rattle.c_check_expressions.specs.Said.{IsSaid}
 use Rattle.c_check_expressions.specs.Callees.{parameters_of}
 
 pub uncalled : (m : Option Meaning) (f : Fault) (s : Scope) (x : Ident) (gs : List Given)

@@ -1,2 +1,10 @@
+pub mod Judged
+pub mod Operators
+pub mod Parts
+pub mod Constants
+pub mod Notes
+pub mod Said
+pub mod TypeNames
+pub mod Arguments
 pub mod Maybe
 pub mod Callees

@@ -1,8 +1,8 @@
 -- An expression that may be absent.
 use Rattle.std.specs.Prelude.{Option, Some, None}
 use Rattle.c_tree.specs.Program.{Expression}
-use Rattle.c_operands.specs.declared.judged.Operand.{Operand}
-use Rattle.c_operands.specs.Judged.{IsOperand, IsOperandOf}
+use Rattle.c_check_expressions.specs.declared.judged.Operand.{Operand}
+use Rattle.c_check_expressions.specs.Judged.{IsOperand, IsOperandOf}
 
 -- the operand of a tree, where there is one
 abbrev pub IsOperandIfAny : Option Expression → Option Operand → Type 0

@@ -1,24 +1,21 @@
 //! Calls, by what the called name means (C99 6.5.2.2).
 
 ghost use Rattle.std.specs.Prelude.{◌≡◌, List, IfOk, length, option_map, slice_get};
-ghost use Rattle.c_bindings.specs.Views.{meaning_of};
+ghost use Rattle.c_check_names.specs.Views.{meaning_of};
 ghost use Rattle.c_tree.specs.Program.{Arguments as TypedArguments};
 ghost use Rattle.c_typing.specs.Checked.{faults_in, Checked, Fails, Note};
 ghost use Rattle.c_typing.specs.Expressions.{arguments_for, called, have_types, Given};
-ghost use Rattle.c_operands.specs.Judged.{IsOperandOf};
-ghost use Rattle.c_operands.specs.Parts.{Stands};
-ghost use Rattle.c_expressions.specs.Arguments.{AreArguments};
-ghost use Rattle.c_expressions.specs.Said.{IsSaid};
+ghost use Rattle.c_check_expressions.specs.Judged.{IsOperandOf};
+ghost use Rattle.c_check_expressions.specs.Parts.{Stands};
+ghost use Rattle.c_check_expressions.specs.Arguments.{AreArguments};
+ghost use Rattle.c_check_expressions.specs.Said.{IsSaid};
 ghost use Rattle.c_check_expressions.specs.Callees.{parameters_of};
 
-use c_bindings::Meaning;
-use c_expressions::Notes;
-use c_expressions::arguments::Arguments;
-use c_expressions::calls::{
-    array_called, function_call, local_called, not_called, number_called, undeclared,
-};
-use c_operands::{Judged, Operand};
-use c_scopes::Scopes;
+use crate::arguments::Arguments;
+use crate::calls::{array_called, function_call, local_called, not_called, number_called, undeclared};
+use crate::judged::{Judged, Operand};
+use crate::notes::Notes;
+use c_check_names::{Meaning, Scopes};
 use c_syntax::Identifier;
 use c_tree::ValueType;
 use pcc_base::{Fault, NoMemory};

@@ -12,19 +12,20 @@ ghost use Rattle.c_typing.specs.Expressions.{
   have_types,
   typed_expression,
 };
-ghost use Rattle.c_operands.specs.Judged.{IsOperandOf};
-ghost use Rattle.c_expressions.specs.Arguments.{for_parameter, one_behind, AreArguments, AreTrees};
-ghost use Rattle.c_expressions.specs.Said.{AreOperandsOf, AreThreeOperandsOf, IsSaid};
+ghost use Rattle.c_check_expressions.specs.Judged.{IsOperandOf};
+ghost use Rattle.c_check_expressions.specs.Arguments.{for_parameter, one_behind, AreArguments, AreTrees};
+ghost use Rattle.c_check_expressions.specs.Said.{AreOperandsOf, AreThreeOperandsOf, IsSaid};
 
+use crate::arguments::{Arguments, no_arguments, one_more};
 use crate::callees::{called, parameter_at, parameters_of};
+use crate::judged::{Judged, Operand};
+use crate::named::named;
 use crate::nodes::{cast_to, constant, postfix_of, prefix_of, three_parts, two_parts};
-use c_expressions::arguments::{Arguments, no_arguments, one_more};
-use c_expressions::named::named;
-use c_expressions::rows::{assignment_of, binary_of, conditional_of, index_of, unary_of};
-use c_expressions::texts::text;
-use c_expressions::{Notes, first_token};
-use c_operands::{Judged, Operand};
-use c_scopes::Scopes;
+use crate::notes::Notes;
+use crate::operators::{assignment_of, binary_of, conditional_of, index_of, unary_of};
+use crate::places::first_token;
+use crate::texts::text;
+use c_check_names::Scopes;
 use c_syntax::Expression;
 use c_tree::ValueType;
 use pcc_base::NoMemory;

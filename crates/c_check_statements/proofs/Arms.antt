@@ -7,8 +7,8 @@ use Rattle.c_tree.specs.Program.{Statement}
 use Rattle.c_typing.specs.Checked.{Checked, Note}
 use Rattle.c_typing.specs.Names.{Scope, entered, numbered}
 use Rattle.c_typing.specs.Statements.{Around}
-use Rattle.c_operands.specs.declared.judged.Judged.{Judged}
-use Rattle.c_expressions.specs.Said.{IsSaid}
+use Rattle.c_check_expressions.specs.declared.judged.Judged.{Judged}
+use Rattle.c_check_expressions.specs.Said.{IsSaid}
 use Rattle.c_check_statements.specs.Answers.{AreListed}
 
 pub at_number : (F : Scope → ℕ → Checked (List Statement)) (s t : Scope) (n : ℕ) (j : Judged (Vec Built Global))

@@ -16,12 +16,12 @@ use Rattle.c_typing.specs.Checked.{Checked, Fits, Fails, Note, both, fits}
 use Rattle.c_typing.specs.Names.{Scope}
 use Rattle.c_typing.specs.Statements.{Around, after_statement, after_statements, row_before, typed_statement}
 use Rattle.c_typing.specs.Statements.{typed_statements}
-use Rattle.c_operands.specs.declared.judged.Judged.{Judged}
-use Rattle.c_operands.specs.declared.judged.Judged.TheVariants as answers
-use Rattle.c_operands.specs.Parts.{Stands}
-use Rattle.c_expressions.specs.Said.{IsSaid}
-use Rattle.c_expressions.proofs.Gathering.{fits_same}
-use Rattle.c_check_declarators.proofs.Lists.{notes_same}
+use Rattle.c_check_expressions.specs.declared.judged.Judged.{Judged}
+use Rattle.c_check_expressions.specs.declared.judged.Judged.TheVariants as answers
+use Rattle.c_check_expressions.specs.Parts.{Stands}
+use Rattle.c_check_expressions.specs.Said.{IsSaid}
+use Rattle.c_check_expressions.proofs.Gathering.{fits_same}
+use Rattle.c_check_declarations.proofs.Lists.{notes_same}
 use Rattle.c_check_statements.specs.Answers.{AreListed, AreStatements}
 use Rattle.c_check_statements.specs.Together.{joined}
 

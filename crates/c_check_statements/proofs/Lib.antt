@@ -1,3 +1,4 @@
+mod Sorted
 mod Arms
 mod Following
 mod Leaving

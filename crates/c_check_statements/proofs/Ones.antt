@@ -8,11 +8,11 @@ use Rattle.c_tree.specs.Erased.{statement_of, statements_of}
 use Rattle.c_tree.specs.Program.{Block, Done, Next, Statement, Statements}
 use Rattle.c_typing.specs.Checked.{Checked, Fits, Fails, Note, fits, if_fits}
 use Rattle.c_typing.specs.Statements.{as_one, one, row_before}
-use Rattle.c_operands.specs.declared.judged.Judged.{Judged}
-use Rattle.c_operands.specs.declared.judged.Judged.TheVariants as answers
-use Rattle.c_operands.specs.Parts.{Stands}
-use Rattle.c_operands.proofs.Together.{noted_stands}
-use Rattle.c_expressions.specs.Said.{IsSaid}
+use Rattle.c_check_expressions.specs.declared.judged.Judged.{Judged}
+use Rattle.c_check_expressions.specs.declared.judged.Judged.TheVariants as answers
+use Rattle.c_check_expressions.specs.Parts.{Stands}
+use Rattle.c_check_expressions.proofs.Together.{noted_stands}
+use Rattle.c_check_expressions.specs.Said.{IsSaid}
 use Rattle.c_check_statements.specs.Answers.{AreListed}
 
 module _ {X A : Type 0} (R : X → A → Type 0) (f : X → Statement) where

@@ -6,7 +6,7 @@ use Rattle.c_tree.specs.declared.types.ValueType.TheVariants.{Void, Integer, Poi
 use Rattle.c_tree.specs.Program.{Expression, value_type}
 use Rattle.c_typing.specs.Checked.{Checked, fits}
 use Rattle.c_typing.specs.Rows.{is_scalar, misfit, selected, tested}
-use Rattle.c_expressions.specs.Said.{IsQuiet}
+use Rattle.c_check_expressions.specs.Said.{IsQuiet}
 
 quiet_if : {A : Type 0} (b : Bool) (c d : Checked A) → IsQuiet c → IsQuiet d → IsQuiet (if b then c else d)
 quiet_if true c d h k = h

@@ -8,8 +8,8 @@ use Rattle.c_tree.specs.Program.{Expression}
 use Rattle.c_typing.specs.Checked.{fits, if_fits}
 use Rattle.c_typing.specs.Rows.{assigned}
 use Rattle.c_typing.specs.Statements.{returned}
-use Rattle.c_operands.specs.declared.judged.Operand.{Operand}
-use Rattle.c_operands.specs.Judged.{IsOperandOf}
+use Rattle.c_check_expressions.specs.declared.judged.Operand.{Operand}
+use Rattle.c_check_expressions.specs.Judged.{IsOperandOf}
 use Rattle.c_check_expressions.specs.Maybe.{IsOperandIfAny}
 
 pub returned_integer : (of : ValueType) (t : IntegerType) (at : Span) (e : Expression) → of ≡ Integer t

@@ -8,9 +8,9 @@ use Rattle.c_tree.specs.declared.statement.Label.{Label}
 use Rattle.c_tree.specs.declared.statement.Statement.{Statement as BuiltStatement}
 use Rattle.c_tree.specs.Erased.{first_of, statement_of, statements_of}
 use Rattle.c_tree.specs.Program.{Expression, First, Statement, Statements}
-use Rattle.c_check_labels.specs.Values.{IsTree}
-use Rattle.c_check_declarations.specs.Answers.{IsTreeIfAny}
-use Rattle.c_check_labels.specs.Labels.{AreLabels}
+use Rattle.c_check_declarations.specs.InitialValues.{IsTree}
+use Rattle.c_check_declarations.specs.ItemAnswers.{IsTreeIfAny}
+use Rattle.c_check_statements.specs.Labels.{AreLabels}
 
 abbrev pub IsStatement : Statement → BuiltStatement → Type 0
 IsStatement x a = statement_of a ≡ x

@@ -1,3 +1,4 @@
+pub mod Labels
 pub mod Views
 pub mod Answers
 pub mod Together

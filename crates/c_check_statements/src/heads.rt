@@ -27,18 +27,17 @@ ghost use Rattle.c_typing.specs.Statements.{
   typed_labels,
 };
 ghost use Rattle.c_typing.specs.Types.{InFor};
-ghost use Rattle.c_expressions.specs.Said.{IsSaid};
-ghost use Rattle.c_check_labels.specs.Values.{IsTree};
-ghost use Rattle.c_check_declarations.specs.Answers.{AreItems, IsTreeIfAny};
-ghost use Rattle.c_check_labels.specs.Labels.{AreLabels};
+ghost use Rattle.c_check_expressions.specs.Said.{IsSaid};
+ghost use Rattle.c_check_declarations.specs.InitialValues.{IsTree};
+ghost use Rattle.c_check_declarations.specs.ItemAnswers.{AreItems, IsTreeIfAny};
+ghost use Rattle.c_check_statements.specs.Labels.{AreLabels};
 ghost use Rattle.c_check_statements.specs.Answers.{AreHead, AreSelected, AreStart, IsFirst};
 
 use crate::conditions::{condition, condition_if_any, switch_value, value_if_any};
+use crate::labels::switch_labels;
 use c_check_declarations::{Position, declaration};
-use c_check_labels::switch_labels;
-use c_expressions::Notes;
-use c_operands::{Judged, both};
-use c_scopes::Scopes;
+use c_check_expressions::{Judged, Notes, both};
+use c_check_names::Scopes;
 use c_syntax::{Declaration, Expression, Statement as RawStatement};
 use c_tree::{Expression as Tree, First, Item, Label};
 use pcc_base::{NoMemory, Span};

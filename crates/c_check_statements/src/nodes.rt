@@ -13,8 +13,8 @@ ghost use Rattle.c_tree.specs.Program.{
 ghost use Rattle.c_tree.specs.declared.statement.Label.{Label as TypedLabel};
 ghost use Rattle.c_typing.specs.Checked.{Checked, Note, both, fits, if_fits, pair, three};
 ghost use Rattle.c_typing.specs.Statements.{alone, for_loop, one};
-ghost use Rattle.c_expressions.specs.Said.{IsSaid};
-ghost use Rattle.c_check_labels.specs.Values.{IsTree};
+ghost use Rattle.c_check_expressions.specs.Said.{IsSaid};
+ghost use Rattle.c_check_declarations.specs.InitialValues.{IsTree};
 ghost use Rattle.c_check_statements.specs.Answers.{
   AreBranches,
   AreCases,
@@ -30,8 +30,7 @@ ghost use Rattle.c_check_statements.specs.Answers.{
 
 use crate::heads::{DoHead, ForHead, SwitchHead, TestHead};
 use crate::parts::{alone, block_of, one};
-use c_expressions::Notes;
-use c_operands::{Judged, both};
+use c_check_expressions::{Judged, Notes, both};
 use c_tree::{Expression as Tree, First, Label, Statement};
 use pcc_base::NoMemory;
 use std::alloc::Global;

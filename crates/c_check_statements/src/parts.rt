@@ -6,12 +6,12 @@ ghost use Rattle.c_tree.specs.Program as tree;
 ghost use Rattle.c_tree.specs.Program.{Item as TypedItem, Statement as Typed};
 ghost use Rattle.c_typing.specs.Checked.{Checked, Note, fits, if_fits};
 ghost use Rattle.c_typing.specs.Statements.{alone, as_one, one};
-ghost use Rattle.c_expressions.specs.Said.{IsSaid};
-ghost use Rattle.c_check_declarations.specs.Answers.{AreItems};
+ghost use Rattle.c_check_expressions.specs.Said.{IsSaid};
+ghost use Rattle.c_check_declarations.specs.ItemAnswers.{AreItems};
 ghost use Rattle.c_check_statements.specs.Answers.{AreListed, IsStatement};
 ghost use Rattle.c_check_statements.specs.Together.{joined};
 
-use c_operands::{Judged, both};
+use c_check_expressions::{Judged, both};
 use c_tree::{Item, Statement};
 use pcc_base::NoMemory;
 use std::alloc::Global;

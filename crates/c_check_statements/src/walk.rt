@@ -21,22 +21,20 @@ ghost use Rattle.c_typing.specs.Statements.{
   typed_statement,
   typed_statements,
 };
-ghost use Rattle.c_expressions.specs.Said.{IsSaid};
-ghost use Rattle.c_check_labels.specs.Values.{IsTree};
+ghost use Rattle.c_check_expressions.specs.Said.{IsSaid};
+ghost use Rattle.c_check_declarations.specs.InitialValues.{IsTree};
 ghost use Rattle.c_check_statements.specs.Answers.{AreHead, AreListed, AreSelected, AreStatements, AreTested};
 ghost use Rattle.c_check_statements.specs.Together.{joined};
 ghost use Rattle.c_check_statements.specs.Views.{around_of};
 
 use crate::around::Around;
-use crate::{
-    Branch, DoHead, ForHead, Position, SwitchHead, TestHead, block, break_statement,
-    continue_statement, declaration, declared, declared_head, do_head, do_loop, empty_statement,
-    evaluated, first_branch, for_head, for_loop, if_else, if_only, joined, return_statement,
-    switch, switch_head, test_head, while_loop,
-};
-use c_expressions::Notes;
-use c_operands::Judged;
-use c_scopes::Scopes;
+use crate::heads::{DoHead, ForHead, SwitchHead, TestHead, declared_head, do_head, for_head, switch_head, test_head};
+use crate::jumps::{break_statement, continue_statement, empty_statement, evaluated, return_statement};
+use crate::nodes::{Branch, block, do_loop, first_branch, for_loop, if_else, if_only, switch, while_loop};
+use crate::parts::{declared, joined};
+use c_check_declarations::{Position, declaration};
+use c_check_expressions::{Judged, Notes};
+use c_check_names::Scopes;
 use c_syntax::{Declaration, Expression, Statement as RawStatement};
 use c_tree::Statement;
 use pcc_base::{NoMemory, Span};

@@ -4,14 +4,13 @@ ghost use Rattle.std.specs.Prelude.{◌≡◌, map, IfOk, OnOk};
 ghost use Rattle.c_syntax.specs.Statements.{stmt_of, stmts_of};
 ghost use Rattle.c_typing.specs.Files.{body_of, in_function};
 ghost use Rattle.c_typing.specs.Statements.{after_statements, typed_statements};
-ghost use Rattle.c_expressions.specs.Said.{IsSaid};
+ghost use Rattle.c_check_expressions.specs.Said.{IsSaid};
 ghost use Rattle.c_check_statements.specs.Answers.{AreStatements};
 
 use crate::around::Around;
 use crate::walk::statements;
-use c_expressions::Notes;
-use c_operands::Judged;
-use c_scopes::Scopes;
+use c_check_expressions::{Judged, Notes};
+use c_check_names::Scopes;
 use c_syntax::Statement as RawStatement;
 use c_tree::{Statement, ValueType};
 use pcc_base::NoMemory;

@@ -1,7 +1,7 @@
-pub mod Views
-pub mod Changes
-pub mod Left
-pub mod Streaming
-pub mod Values
-pub mod Spans
-pub mod Kept
+pub mod Passing
+pub mod AtOnce
+pub mod Runs
+pub mod Performs
+pub mod Standing
+pub mod Turns
+pub mod Whole

@@ -1,25 +1,36 @@
-//! What is left to do of a program while it is evaluated, and what it holds, without a call of the evaluator for a call
-//! of the program.
+//! The evaluation of typed programs from their start to their end.
 //!
-//! In: what is left to do (`Evaluation`), and a task, value or place that comes or goes. Out: what is left then, as
-//! `specs/Changes.antt` says in the words of the steps of `c_eval_laws`. In: the calls of an evaluator, from the start
-//! of a program on. Out: static objects, and the locals and arrays of active calls (`Store`), as `specs/Store.antt` of
-//! `c_tree` has them (`specs/Kept.antt`). `streams` has the steps of `getchar` and `putchar`. The only refusal is want
-//! of memory.
+//! In: a typed program, an input and an output that are lent, and a number of turns. Out: how the program ended, with
+//! the bytes that it writes on the output. The promise: `eval` answers what the source meaning says of so many turns
+//! (`specs/Runs.antt`): the exit status, the trap, or that the program still goes; it takes exactly the bytes that the
+//! program takes. The only refusal is want of memory.
+//!
+//! `run` has the loops over steps and turns. `steps` does one step, by a function of `expressions`, `values` and
+//! `stores` or of `statements`, `items` and `calls` for each task, and each does what the step of `c_eval_laws` for its
+//! task does; `at_once` finds small expressions by recursion, and `turns` begins a turn.
 #![tactic(auto)]
 
-mod arrays;
+mod ahead;
+mod at_once;
 mod calls;
-mod end;
-mod evaluation;
+mod evaluate;
+mod expressions;
+mod items;
+mod locals;
+mod logical;
+mod next;
 mod operators;
-mod store;
-pub mod streams;
-mod task;
-mod value;
+mod passing;
+mod run;
+mod statements;
+mod step;
+mod steps;
+mod stores;
+mod turns;
+mod values;
 
-pub use end::EvalEnd;
-pub use evaluation::Evaluation;
-pub use store::Store;
-pub use task::{StatementPart, Task, Way};
-pub use value::{ArrayName, Place, Value};
+pub use ahead::advance_ahead;
+pub use evaluate::eval;
+pub use locals::declare_local;
+pub use next::Next;
+pub use operators::begin_binary;

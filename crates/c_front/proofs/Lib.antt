@@ -1,8 +1,6 @@
-pub mod Exact
-pub mod Inside
+pub mod OneReading
 pub mod Reading
 pub mod Totals
 pub mod Units
-pub mod Passed
-pub mod Rows
-pub mod Trees
+pub mod OneAnswer
+pub mod Reasons

@@ -5,8 +5,8 @@ use Rattle.std.proofs.lemmas.List.{append_assoc, append-nil}
 use Rattle.pcc_base.specs.declared.refusal.Limit.TheVariants as limits
 use Rattle.pcc_base.specs.declared.refusal.Refusal.{Refusal}
 use Rattle.pcc_base.specs.declared.refusal.Refusal.TheVariants as refusals
-use Rattle.c_tokens.specs.declared.token.Token.{Token}
-use Rattle.c_tokens.specs.Tokens.{HasTokens}
+use Rattle.c_lex.specs.declared.token.Token.{Token}
+use Rattle.c_lex.specs.Tokens.{HasTokens}
 use Rattle.c_syntax.specs.Statements.{ExternalTree}
 use Rattle.c_front.specs.Accepted.{HaveTokens, HasTree, HaveTrees, total}
 use Rattle.c_front.specs.Refusals.{AreUnread, FaultBehind, StandBefore}

@@ -1,14 +1,14 @@
 -- The raw trees of texts are those of each text, and their tokens are those of the texts.
 use Rattle.std.proofs.Common.{arith, ◌≡◌, refl, subst, ℕ, suc, List, [], ◌∷◌, length, length-append}
 use Rattle.std.specs.Prelude.{flat_map}
-use Rattle.c_tokens.specs.declared.token.Token.{Token}
+use Rattle.c_lex.specs.declared.token.Token.{Token}
 use Rattle.c_syntax.specs.Grammar.{unit_tokens}
 use Rattle.c_syntax.specs.Statements.{ExternalTree}
 use Rattle.c_front.specs.Accepted.{HaveTokens, HaveTrees, total}
-use Rattle.c_sound.specs.Laws.{AreUnitsOf}
-use Rattle.c_sound.proofs.Sources.{texts_are_sources}
-use Rattle.c_sound.proofs.Words.{identifiers_have_names}
-use Rattle.c_front.specs.Laws.{UnitsAreFew, UnitsAreSources, UnitsHaveNames}
+use Rattle.c_check_laws.specs.Laws.{AreUnitsOf}
+use Rattle.c_check_laws.proofs.Sources.{texts_are_sources}
+use Rattle.c_check_laws.proofs.Words.{identifiers_have_names}
+use Rattle.c_front.specs.UnitLaws.{UnitsAreFew, UnitsAreSources, UnitsHaveNames}
 
 -- the raw trees are those of the texts
 units_of : (file : ℕ) (texts : List (List ℕ)) (files : List (List Token)) (units : List (List ExternalTree))

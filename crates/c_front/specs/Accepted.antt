@@ -1,7 +1,7 @@
 -- The tokens and the raw trees of source files.
 use Rattle.std.specs.Prelude.{◌≤◌, ℕ, suc, ◌+◌, List, [], ◌∷◌, length, ⊤}
-use Rattle.c_tokens.specs.declared.token.Token.{Token}
-use Rattle.c_tokens.specs.Tokens.{HasTokens}
+use Rattle.c_lex.specs.declared.token.Token.{Token}
+use Rattle.c_lex.specs.Tokens.{HasTokens}
 use Rattle.c_syntax.specs.Statements.{ExternalTree}
 use Rattle.c_syntax.specs.Grammar.{Tree}
 

@@ -1,7 +1,6 @@
 pub mod Accepted
 pub mod Refusals
 pub mod SoFar
-pub mod Laws
+pub mod UnitLaws
 pub mod Units
-pub mod ParserRefusals
-pub mod Passing
+pub mod Answers

@@ -7,10 +7,10 @@ use Rattle.pcc_base.specs.declared.fault.FaultKind.TheVariants.{Syntax, Unsuppor
 use Rattle.pcc_base.specs.declared.refusal.Limit.TheVariants.{Tokens}
 use Rattle.pcc_base.specs.declared.refusal.Refusal.{Refusal}
 use Rattle.pcc_base.specs.declared.refusal.Refusal.TheVariants as refusals
-use Rattle.c_tokens.specs.declared.token.Token.{Token}
-use Rattle.c_tokens.specs.Tokens.{HasTokens, HasFault, BeginsWith}
+use Rattle.c_lex.specs.declared.token.Token.{Token}
+use Rattle.c_lex.specs.Tokens.{HasTokens, HasFault, BeginsWith}
 use Rattle.c_syntax.specs.Statements.{ExternalTree}
-use Rattle.c_front.specs.ParserRefusals.{NoneUnsupported, FirstUnsupported, NoTree}
+use Rattle.c_parse.specs.ParserRefusals.{NoneUnsupported, FirstUnsupported, NoTree}
 use Rattle.c_front.specs.Accepted.{HaveTokens, HasTree, HaveTrees, total}
 
 -- ---- tokens

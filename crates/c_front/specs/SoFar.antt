@@ -6,8 +6,8 @@ use Rattle.pcc_base.specs.declared.fault.FaultKind.{FaultKind}
 use Rattle.pcc_base.specs.declared.refusal.Limit.TheVariants.{Tokens}
 use Rattle.pcc_base.specs.declared.refusal.Refusal.{Refusal}
 use Rattle.pcc_base.specs.declared.refusal.Refusal.TheVariants as refusals
-use Rattle.c_tokens.specs.declared.token.Token.{Token}
-use Rattle.c_tokens.specs.Tokens.{HasFault, BeginsWith}
+use Rattle.c_lex.specs.declared.token.Token.{Token}
+use Rattle.c_lex.specs.Tokens.{HasFault, BeginsWith}
 use Rattle.c_syntax.specs.Statements.{ExternalTree}
 use Rattle.c_front.specs.Accepted.{HaveTokens, HaveTrees, total}
 use Rattle.c_front.specs.Refusals.{StandBefore, FaultBehind, FirstFaulty, IsFaultyIn}

@@ -1,6 +1,6 @@
 -- The raw trees of texts.
 use Rattle.std.specs.Prelude.{◌≤◌, ℕ, List}
-use Rattle.c_tokens.specs.declared.token.Token.{Token}
+use Rattle.c_lex.specs.declared.token.Token.{Token}
 use Rattle.c_syntax.specs.Statements.{ExternalTree}
 use Rattle.c_front.specs.Accepted.{HaveTokens, HaveTrees, total}
 

@@ -2,14 +2,13 @@
 
 ghost use Rattle.std.specs.Prelude.{◌≡◌, ◌≤◌, ◌<◌, ◌+◌, ◌^◌, length, map, IfOk, IfErr};
 ghost use Rattle.std.specs.List.{AllByRecursion};
-ghost use Rattle.c_tokens.specs.Tokens.{HasTokens};
+ghost use Rattle.c_lex.specs.Tokens.{HasTokens};
 ghost use Rattle.c_front.specs.Accepted.{HaveTokens, total};
 ghost use Rattle.c_front.specs.Refusals.{AreUnread};
 ghost use Rattle.c_front.specs.SoFar.{IsUnread};
 
-use c_cursor::push;
-use c_lexer::{advance, lex};
-use c_tokens::Token;
+use c_lex::{Token, advance, lex};
+use c_parse_expressions::push;
 use pcc_base::{Limit, Refusal, Span};
 use std::alloc::Global;
 

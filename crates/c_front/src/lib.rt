@@ -1,21 +1,26 @@
-//! The tokens and the raw trees of source files, or why one has none, and where.
+//! The typed program of source files.
 //!
-//! `lex_files` gives the tokens of each file, `parse_files` its raw tree (`specs/Accepted.antt`); files are refused
-//! only for the reasons of `specs/Refusals.antt`, the first fault first. The raw trees of texts
-//! (`specs/Units.antt`) are what typing asks for (`specs/Laws.antt`).
+//! In: the texts of at most 16 files, in their order. Out: their one typed program, or why they have none, and where.
+//! The promise: `typed_program` gives exactly the program of `specs/Answers.antt`, through tokens, raw trees and
+//! typing, or the first fault that the texts have, or the limit that they are above, that on frames with the function's
+//! name; texts have one such answer (`one_answer`). The only other refusal is want of memory.
 //!
-//! `parse` takes the tokens of one file and gives its raw tree of height at most 256, exactly that of `Tree` of the
-//! grammar, or why there is none, and where, exactly where there is none (`specs/ParserRefusals.antt`).
+//! `lexed` has the tokens of each file, `parsed` its raw tree (`specs/Accepted.antt`), refused only for the reasons of
+//! `specs/Refusals.antt`; `typed` puts all together, and `names` tells the functions that files define. `unit_laws` and
+//! `answer_laws` have laws alone.
 #![tactic(auto)]
 
-mod externals;
-mod keywords;
-mod laws;
+mod answer_laws;
 mod lexed;
+mod names;
 mod parsed;
-mod parser;
+mod refused;
+mod typed;
+mod unit_laws;
 
-pub use laws::{units_are_sources, units_have_names};
-pub use lexed::{Lexed, lex_files};
-pub use parsed::parse_files;
-pub use parser::parse;
+pub use answer_laws::one_answer;
+pub use lexed::Lexed;
+pub use names::name_of;
+pub use refused::Refused;
+pub use typed::typed_program;
+pub use unit_laws::units_have_names;

@@ -2,17 +2,17 @@
 
 ghost use Rattle.std.specs.Prelude.{◌≤◌, List, length, map, IfOk, IfErr};
 ghost use Rattle.c_syntax.specs.Statements.{unit_of};
-ghost use Rattle.c_tokens.specs.declared.token.Token.{Token};
-ghost use Rattle.c_front.specs.ParserRefusals.{IsFaulty};
+ghost use Rattle.c_lex.specs.declared.token.Token.{Token};
+ghost use Rattle.c_parse.specs.ParserRefusals.{IsFaulty};
 ghost use Rattle.c_front.specs.Accepted.{HasTree, HaveTrees};
 ghost use Rattle.c_front.specs.SoFar.{AreUnparsed, IsUnparsed};
 ghost use Rattle.c_front.specs.Refusals.{IsFaultyIn};
 
 use crate::lexed::Lexed;
-use crate::parse;
-use c_cursor::push;
+use c_lex::Token;
+use c_parse::parse;
+use c_parse_expressions::push;
 use c_syntax::RawUnit;
-use c_tokens::Token;
 use pcc_base::{Fault, FaultKind, Refusal, Span};
 use std::alloc::Global;
 

@@ -1,15 +1,15 @@
 -- The levels of operators: one that has no operator here is passed over.
 use Rattle.std.proofs.Common.{◌≡◌, ◌<◌, ◌≤◌, ◌+◌, ◌-◌, ℕ, zero, suc, List, Some, None, sym, ◌∙◌, ap, subst, arith}
 use Rattle.pcc_base.specs.declared.refusal.Refusal.{Refusal}
-use Rattle.c_tokens.specs.declared.token.Token.{Token}
+use Rattle.c_lex.specs.declared.token.Token.{Token}
 use Rattle.c_syntax.specs.Expressions.{Expr}
 use Rattle.c_syntax.specs.Chains.{Done, Reads, chained, then_read}
 use Rattle.c_syntax.specs.Taking.{take_binary}
 use Rattle.c_syntax.specs.Reading.{Readers, read_binary, infix_step, infix_from}
 use Rattle.c_syntax.proofs.Chains.{continues_from, continues_done}
 use Rattle.c_syntax.proofs.Reading.{read_binary_above}
-use Rattle.c_cursor.specs.Readings.{Refused}
-use Rattle.c_cursor.proofs.Refused.{refused_then}
+use Rattle.c_parse_expressions.specs.Readings.{Refused}
+use Rattle.c_parse_expressions.proofs.Refused.{refused_then}
 
 -- a level more, where no operator of it comes
 level_passed : (height : ℕ) (b : Readers) (k : ℕ) (ts us : List Token) (e : Expr)

@@ -1,2 +1,4 @@
+pub mod Refused
+pub mod Fronts
 pub mod Levels
 pub mod Turns

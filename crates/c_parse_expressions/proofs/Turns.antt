@@ -3,8 +3,8 @@ use Rattle.std.proofs.Common.{◌≡◌, ℕ, ◌-◌, ◌≤◌, List, [], ◌�
 use Rattle.std.proofs.Common.{is_some, refl, sym, ◌∙◌, ◌<◌, length, subst, arith}
 use Rattle.pcc_base.specs.declared.span.Span.{Span}
 use Rattle.pcc_base.specs.declared.refusal.Refusal.{Refusal}
-use Rattle.c_tokens.specs.declared.token.Token.{Token}
-use Rattle.c_tokens.specs.declared.token.Punct.TheVariants as marks
+use Rattle.c_lex.specs.declared.token.Token.{Token}
+use Rattle.c_lex.specs.declared.token.Punct.TheVariants as marks
 use Rattle.c_syntax.specs.declared.expression.Specifier.{Specifier}
 use Rattle.c_syntax.specs.Expressions.{Star, Expr}
 use Rattle.c_syntax.specs.Chains.{Reads, chained}
@@ -13,12 +13,12 @@ use Rattle.c_syntax.specs.Reading.{Readers, readers, read_cast, cast_behind}
 use Rattle.c_syntax.proofs.Reading.{readers-none, cast_reads}
 use Rattle.c_syntax.specs.Reading.{Values, read_arguments, arguments_from, value_step}
 use Rattle.c_syntax.proofs.Chains.{Continues, continues_start}
-use Rattle.c_cursor.specs.Readings.{Refused}
-use Rattle.c_cursor.specs.Fronts.{BeginsWithSpecifier}
+use Rattle.c_parse_expressions.specs.Readings.{Refused}
+use Rattle.c_parse_expressions.specs.Fronts.{BeginsWithSpecifier}
 use Rattle.c_parse_expressions.specs.declared.found.Found.{Found}
 use Rattle.c_parse_expressions.specs.declared.expression.Rule.{Rule}
 use Rattle.c_parse_expressions.specs.declared.expression.Rule.TheVariants as rules_of
-use Rattle.c_parse_expressions.specs.Readings.{IsReading, reader_of, below}
+use Rattle.c_parse_expressions.specs.ExpressionReadings.{IsReading, reader_of, below}
 
 -- one reader in place of another
 pub same_reading : (height : ℕ) (r s : List Token → Reads Expr) (old new : List Token) (result : Result Found Refusal)

@@ -10,7 +10,7 @@ ghost use Rattle.c_syntax.specs.ExpressionTokens.{expr_height};
 ghost use Rattle.c_parse_expressions.specs.Values.{values_of, height_of_values};
 
 use crate::found::{Found, Values};
-use c_cursor::push;
+use crate::repeated_tokens::push;
 use c_syntax::{BinaryOp, Expression};
 use pcc_base::{NoMemory, Span};
 use std::alloc::Global;

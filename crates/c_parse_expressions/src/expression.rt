@@ -8,15 +8,17 @@ ghost use Rattle.c_syntax.specs.Reading.{read_unary, infix_step, infix_from, ass
 ghost use Rattle.c_syntax.specs.Reading.{cast_behind, prefix_from, unary_from, readers};
 ghost use Rattle.c_syntax.specs.Taking.{take_specifiers, take_pointer};
 ghost use Rattle.c_syntax.specs.Chains.{chained};
-ghost use Rattle.c_parse_expressions.specs.Readings.{IsReading, IsPartReading, IsTurn, IsRule, below, reader_of};
+ghost use Rattle.c_parse_expressions.specs.ExpressionReadings.{IsReading, IsPartReading, IsTurn, IsRule, below, reader_of};
 
+use crate::build::binary_node;
+use crate::cursor::{Cursor, fault_at};
+use crate::found::Found;
+use crate::height::Height;
 use crate::nodes::{assignment_node, cast_node, conditional_node, prefix_node, unary_node};
 use crate::primary::postfix;
 use crate::turn::Turn;
-use crate::{Found, binary_node};
-use c_cursor::{Cursor, Height, fault_at};
+use c_lex::Punct;
 use c_syntax::{AssignOp, BinaryOp, Expression, StepOp, UnaryOp};
-use c_tokens::Punct;
 use pcc_base::{FaultKind, Refusal, Span};
 
 /// The level of the loosest operators of `binary`.

@@ -7,7 +7,8 @@ ghost use Rattle.std.specs.Prelude.{◌≡◌, ◌≤◌, max, map, suc, IfOk};
 ghost use Rattle.c_syntax.specs.Expressions as trees;
 ghost use Rattle.c_syntax.specs.Expressions.{expr_of, exprs_of, star_of};
 
-use crate::{Found, Values, found_of};
+use crate::build::found_of;
+use crate::found::{Found, Values};
 use c_syntax::{
     AssignOp, CallParts, Expression, Identifier, Pointer, Specifier, StepOp, TextPiece, TypeName,
     UnaryOp,

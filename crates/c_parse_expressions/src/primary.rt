@@ -7,19 +7,21 @@ ghost use Rattle.c_syntax.specs.ExpressionTokens.{expr_height};
 ghost use Rattle.c_syntax.specs.Reading.{read_postfix, read_primary, read_arguments, suffix_step, value_step};
 ghost use Rattle.c_syntax.specs.Reading.{call_from, index_from, parenthesised_from, text_from};
 ghost use Rattle.c_syntax.specs.Taking.{take_mark, take_texts};
-ghost use Rattle.c_parse_expressions.specs.Readings.{IsReading, IsPartReading, IsTurn, AreValues, IsValuesTurn};
-ghost use Rattle.c_parse_expressions.specs.Readings.{below};
+ghost use Rattle.c_parse_expressions.specs.ExpressionReadings.{IsReading, IsPartReading, IsTurn, AreValues, IsValuesTurn};
+ghost use Rattle.c_parse_expressions.specs.ExpressionReadings.{below};
 ghost use Rattle.c_parse_expressions.specs.Values.{values_of, height_of_values};
 ghost use Rattle.c_parse_expressions.specs.declared.found.Found.{Found as Tree};
-ghost use Rattle.c_cursor.specs.Readings.{IsRead};
+ghost use Rattle.c_parse_expressions.specs.Readings.{IsRead};
 
+use crate::build::{one_more, one_value, parenthesised_node};
+use crate::cursor::Cursor;
 use crate::expression::{Rule, tree_below, tree_of};
+use crate::found::{Found, Values};
+use crate::height::Height;
 use crate::nodes::{call_node, identifier_node, index_node, number_node, postfix_node, text_node};
 use crate::turn::{Turn, ValuesTurn};
-use crate::{Found, Values, one_more, one_value, parenthesised_node};
-use c_cursor::{Cursor, Height};
+use c_lex::{Punct, TokenKind};
 use c_syntax::{Identifier, TextPiece};
-use c_tokens::{Punct, TokenKind};
 use pcc_base::{FaultKind, Name, NoMemory, Refusal, Span};
 
 /// `postfix : primary ('[' expression ']' | '++' | '--')*`

@@ -1,6 +1,6 @@
 //! Turns of the loops over expressions and values.
 
-use crate::{Found, Values};
+use crate::found::{Found, Values};
 
 /// One turn of a loop over an expression: one part more, or the end.
 #[derive(Drop)]

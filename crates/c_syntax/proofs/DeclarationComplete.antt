@@ -5,10 +5,10 @@ use Rattle.std.proofs.Common.{None, refl, ap, sym, ◌∙◌, subst, arith, appe
 use denote.Enum.Bare.{true_same}
 use Rattle.std.proofs.lemmas.List.{append-nil}
 use Rattle.pcc_base.specs.declared.span.Span.{Span}
-use Rattle.c_tokens.specs.declared.token.Token.{Token}
-use Rattle.c_tokens.specs.declared.token.Punct.{Punct}
-use Rattle.c_tokens.specs.declared.token.Punct.TheVariants as marks
-use Rattle.c_tokens.specs.contracts.token.Punct.{the_type as the_marks}
+use Rattle.c_lex.specs.declared.token.Token.{Token}
+use Rattle.c_lex.specs.declared.token.Punct.{Punct}
+use Rattle.c_lex.specs.declared.token.Punct.TheVariants as marks
+use Rattle.c_lex.specs.contracts.token.Punct.{the_type as the_marks}
 use Rattle.c_syntax.specs.declared.expression.Identifier.{Identifier}
 use Rattle.c_syntax.specs.declared.expression.Specifier.{Specifier}
 use Rattle.c_syntax.specs.Marks.{mark, ident}

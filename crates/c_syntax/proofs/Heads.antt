@@ -3,11 +3,11 @@ use Rattle.std.proofs.Common.{◌≡◌, ℕ, ◌≤◌, true, false, List, [], 
 use Rattle.std.proofs.Common.{append_assoc}
 use Rattle.pcc_base.specs.declared.span.Span.{Span}
 use Rattle.pcc_base.specs.declared.keyword.Keyword.{Keyword}
-use Rattle.c_tokens.specs.declared.token.Token.{Token}
-use Rattle.c_tokens.specs.declared.token.TokenKind.{TokenKind}
-use Rattle.c_tokens.specs.declared.token.TokenKind.TheVariants as kinds
-use Rattle.c_tokens.specs.declared.token.Punct.{Punct}
-use Rattle.c_tokens.specs.declared.token.Punct.TheVariants as marks
+use Rattle.c_lex.specs.declared.token.Token.{Token}
+use Rattle.c_lex.specs.declared.token.TokenKind.{TokenKind}
+use Rattle.c_lex.specs.declared.token.TokenKind.TheVariants as kinds
+use Rattle.c_lex.specs.declared.token.Punct.{Punct}
+use Rattle.c_lex.specs.declared.token.Punct.TheVariants as marks
 use Rattle.c_syntax.specs.declared.operator.UnaryOp.{UnaryOp}
 use Rattle.c_syntax.specs.declared.operator.UnaryOp.TheVariants as unary
 use Rattle.c_syntax.specs.declared.operator.StepOp.{StepOp}
@@ -17,7 +17,7 @@ use Rattle.c_syntax.specs.Expressions.{Expr, Identifier, Number, Text, Parenthes
 use Rattle.c_syntax.specs.Expressions.{Unary, Cast, Binary, Conditional, Assignment}
 use Rattle.c_syntax.specs.ExpressionTokens.{expr_tokens, looseness, IsExpr}
 use denote.Enum.Bare.{false_same}
-use Rattle.c_tokens.specs.contracts.token.Punct.{the_type as the_marks}
+use Rattle.c_lex.specs.contracts.token.Punct.{the_type as the_marks}
 use Rattle.c_syntax.specs.Taking.{is_mark, is_word, take_word, of_mark, unary_of_mark, step_of_mark, specifier_of}
 use Rattle.c_syntax.specs.Taking.{take_mark, take_step, take_unary, take_specifiers}
 use Rattle.c_syntax.specs.Reading.{Readers, read_cast, read_unary}

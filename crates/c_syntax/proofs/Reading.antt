@@ -1,8 +1,8 @@
 -- Reading an expression from the front of a list of tokens, where its height may be at most so much.
 use Rattle.std.proofs.Common.{◌≡◌, ℕ, zero, suc, ◌-◌, ◌<◌, List, ◌∷◌, Some, refl, arith}
 use Rattle.pcc_base.specs.declared.span.Span.{Span}
-use Rattle.c_tokens.specs.declared.token.Token.{Token}
-use Rattle.c_tokens.specs.declared.token.Punct.TheVariants as marks
+use Rattle.c_lex.specs.declared.token.Token.{Token}
+use Rattle.c_lex.specs.declared.token.Punct.TheVariants as marks
 use Rattle.c_syntax.specs.declared.expression.Specifier.{Specifier}
 use Rattle.c_syntax.specs.Taking.{take_mark, take_specifiers, take_pointer}
 use Rattle.c_syntax.specs.Reading.{Readers, cast_behind, no_readers, read_assignment, read_binary, read_cast}

@@ -1,7 +1,7 @@
 -- One more token of a row.
 use Rattle.std.proofs.Common.{◌≡◌, List, [], ◌∷◌, ◌++◌, ap, sym, ◌∙◌, append_assoc}
 use Rattle.std.proofs.lemmas.List.{append-nil}
-use Rattle.c_tokens.specs.declared.token.Token.{Token}
+use Rattle.c_lex.specs.declared.token.Token.{Token}
 use Rattle.c_syntax.specs.Taking.{with_front, prefixed}
 
 -- a row that goes on with one more

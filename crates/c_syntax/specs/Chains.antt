@@ -1,6 +1,6 @@
 -- Reading in a loop: from what was read so far, one step reads one part more, finds the end, or fails.
 use Rattle.std.specs.Prelude.{ℕ, zero, suc, List, length, Option, Some, None}
-use Rattle.c_tokens.specs.declared.token.Token.{Token}
+use Rattle.c_lex.specs.declared.token.Token.{Token}
 
 pub data Step (A : Type 0) : Type 0 where
   Done : Step A

@@ -1,7 +1,7 @@
 -- The raw tree of a list of tokens (C99 6.5 to 6.9).
 use Rattle.std.specs.Prelude.{◌≡◌, ℕ, suc, max, List, [], ◌∷◌, ◌++◌}
 use Rattle.std.specs.List.{AllByRecursion}
-use Rattle.c_tokens.specs.declared.token.Token.{Token}
+use Rattle.c_lex.specs.declared.token.Token.{Token}
 use Rattle.c_syntax.specs.ExpressionTokens.{specifiers_tokens, IsSpecifiers}
 use Rattle.c_syntax.specs.Declarations.{PartTree, Function}
 use Rattle.c_syntax.specs.DeclarationTokens.{declarator_tokens, declaration_tokens, part_height, declaration_height}

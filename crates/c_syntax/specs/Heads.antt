@@ -1,9 +1,9 @@
 -- With which tokens an expression begins.
 use Rattle.std.specs.Prelude.{Bool, true, false}
-use Rattle.c_tokens.specs.declared.token.TokenKind.{TokenKind}
-use Rattle.c_tokens.specs.declared.token.TokenKind.TheVariants as kinds
-use Rattle.c_tokens.specs.declared.token.Punct.{Punct}
-use Rattle.c_tokens.specs.declared.token.Punct.TheVariants as marks
+use Rattle.c_lex.specs.declared.token.TokenKind.{TokenKind}
+use Rattle.c_lex.specs.declared.token.TokenKind.TheVariants as kinds
+use Rattle.c_lex.specs.declared.token.Punct.{Punct}
+use Rattle.c_lex.specs.declared.token.Punct.TheVariants as marks
 
 abbrev pub mark_begins : Punct → Bool
 mark_begins marks.LeftParen = true

@@ -1,7 +1,7 @@
 //! Laws of the definitions: each function's contract is one, and the function does nothing.
 
 ghost use Rattle.std.specs.Prelude.{◌≡◌, ℕ, List};
-ghost use Rattle.c_tokens.specs.declared.token.Token.{Token};
+ghost use Rattle.c_lex.specs.declared.token.Token.{Token};
 ghost use Rattle.c_syntax.specs.Statements.{ExternalTree};
 ghost use Rattle.c_syntax.specs.Grammar.{Tree};
 

@@ -7,7 +7,7 @@ use Rattle.ia32_insn.specs.declared.item.Item.{Item}
 use Rattle.ia32_asm.specs.declared.section.Section.{Section}
 use Rattle.ia32_asm.specs.declared.section.Symbol.{Symbol}
 use Rattle.ia32_asm.specs.Sections.{IsSection}
-use Rattle.elf_addresses.specs.Parts.{function_of, order_of}
+use Rattle.elf_link.specs.Parts.{function_of, order_of}
 use Rattle.elf_link.specs.Linking.{AreSections}
 
 -- the order of one function

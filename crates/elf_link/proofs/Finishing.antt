@@ -17,13 +17,13 @@ use Rattle.ia32_asm.specs.declared.section.Target.{Target}
 use Rattle.ia32_asm.specs.declared.section.Target.TheVariants as target
 use Rattle.ia32_asm.specs.Sections.{resolved, HasAddress, HaveAddresses, IsSection}
 use Rattle.ia32_asm.proofs.Resolved.{length-resolved}
-use Rattle.elf_addresses.specs.declared.addresses.Addresses.{Addresses}
+use Rattle.elf_link.specs.declared.addresses.Addresses.{Addresses}
 use Rattle.elf_link.specs.declared.linked.Linked.{Linked}
-use Rattle.elf_addresses.specs.Parts.{IsThere, function_of, order_of}
+use Rattle.elf_link.specs.Parts.{IsThere, function_of, order_of}
 use Rattle.elf_link.specs.Linking.{FitsIn, CanLink, AreSections, HasPoints, IsLinked}
-use Rattle.elf_addresses.specs.Parts.{sections_size, objects_size}
-use Rattle.elf_addresses.specs.Symbols.{symbols_of}
-use Rattle.elf_addresses.proofs.Data.{length-data}
+use Rattle.elf_link.specs.Parts.{sections_size, objects_size}
+use Rattle.elf_link.specs.Symbols.{symbols_of}
+use Rattle.elf_link.proofs.DataSize.{length-data}
 use Rattle.elf_link.specs.Placed.{addresses_from, AreAddresses, AreNumbered, exit_size, getchar_size, putchar_size}
 use Rattle.elf_link.specs.Placed.{routines_size, start_size}
 use Rattle.elf_link.specs.Laid.{code_from, points_from, HasCode}

@@ -13,9 +13,9 @@ use Rattle.ia32_asm.specs.declared.section.Section.{Section}
 use Rattle.ia32_asm.specs.declared.section.Relocation.{Relocation}
 use Rattle.ia32_asm.specs.Sections.{word_for, with_word, resolved}
 use Rattle.ia32_asm.proofs.Resolved.{length-with_word, length-resolved}
-use Rattle.elf_addresses.specs.declared.addresses.Addresses.{Addresses}
-use Rattle.elf_addresses.specs.Parts.{function_of, order_of, sections_size, objects_size}
-use Rattle.elf_addresses.specs.Symbols.{symbols_of}
+use Rattle.elf_link.specs.declared.addresses.Addresses.{Addresses}
+use Rattle.elf_link.specs.Parts.{function_of, order_of, sections_size, objects_size}
+use Rattle.elf_link.specs.Symbols.{symbols_of}
 use Rattle.elf_link.specs.declared.linked.Linked.{Linked}
 use Rattle.elf_link.specs.Linking.{FitsIn, CanLink}
 use Rattle.elf_link.specs.Placed.{addresses_from, AreAddresses, AreNumbered, start_size, putchar_size, getchar_size}

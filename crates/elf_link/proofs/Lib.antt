@@ -1,3 +1,5 @@
+pub mod Holding
+pub mod DataSize
 pub mod Numbered
 pub mod Lists
 pub mod Alone

@@ -6,7 +6,7 @@ use Rattle.std.proofs.lemmas.Bool.{cases_eq}
 use Rattle.std.proofs.lemmas.Option.{same_Some, slice_get-map, slice_get_within}
 use Rattle.ia32_insn.specs.Items.{IsOrder}
 use Rattle.ia32_asm.specs.declared.section.Section.{Section}
-use Rattle.elf_addresses.specs.Parts.{function_of, order_of}
+use Rattle.elf_link.specs.Parts.{function_of, order_of}
 use Rattle.elf_link.specs.Placed.{AreNumbered}
 
 -- an element that was set is there

@@ -20,10 +20,10 @@ use Rattle.ia32_asm.specs.declared.section.Target.TheVariants as target
 use Rattle.ia32_asm.specs.Sections.{target_of, word_for, with_word, resolved, HasAddress, FollowFrom, IsSection}
 use Rattle.ia32_asm.specs.Sections.{CanAssemble, items_size}
 use Rattle.ia32_asm.proofs.Resolved.{length-resolved, with_word-behind, resolved-push}
-use Rattle.elf_addresses.specs.declared.addresses.Addresses.{Addresses}
-use Rattle.elf_addresses.specs.Parts.{IsThere, function_of, order_of, sections_size}
+use Rattle.elf_link.specs.declared.addresses.Addresses.{Addresses}
+use Rattle.elf_link.specs.Parts.{IsThere, function_of, order_of, sections_size}
 use Rattle.elf_link.specs.Linking.{FitsIn}
-use Rattle.elf_addresses.specs.Symbols.{symbols_of}
+use Rattle.elf_link.specs.Symbols.{symbols_of}
 use Rattle.elf_link.specs.Placed.{addresses_from, AreInText, start_size}
 use Rattle.elf_link.specs.Laid.{AreNamed, HasItems}
 use Rattle.elf_link.proofs.Lists.{moved_parts}

@@ -7,9 +7,9 @@ use Rattle.ia32_insn.specs.Items.{exit_items, check_items}
 use Rattle.ia32_asm.specs.declared.section.Section.{Section}
 use Rattle.ia32_asm.specs.declared.section.Target.{Target}
 use Rattle.ia32_asm.specs.Sections.{target_of, resolved, items_size, HasAddress}
-use Rattle.elf_addresses.specs.declared.addresses.Addresses.{Addresses}
-use Rattle.elf_addresses.specs.Parts.{IsThere}
-use Rattle.elf_addresses.specs.Symbols.{symbols_of}
+use Rattle.elf_link.specs.declared.addresses.Addresses.{Addresses}
+use Rattle.elf_link.specs.Parts.{IsThere}
+use Rattle.elf_link.specs.Symbols.{symbols_of}
 use Rattle.elf_link.specs.Placed.{start_size}
 
 -- the bytes of sections that stand one behind the other from an address on

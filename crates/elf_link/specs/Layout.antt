@@ -7,7 +7,7 @@ use Rattle.ia32_insn.specs.Items.{object_addresses, start_items, putchar_items, 
 use Rattle.ia32_asm.specs.declared.section.Section.{Section}
 use Rattle.ia32_asm.specs.declared.section.Relocation.{Relocation}
 use Rattle.ia32_asm.specs.Sections.{word_for}
-use Rattle.elf_addresses.specs.Parts.{function_of, sections_size}
+use Rattle.elf_link.specs.Parts.{function_of, sections_size}
 use Rattle.elf_link.specs.declared.linked.Linked.{Linked}
 use Rattle.elf_link.specs.Placed.{start_size, putchar_size, getchar_size, exit_size, check_size, routines_size}
 

@@ -1,3 +1,5 @@
+pub mod Parts
+pub mod Symbols
 pub mod Placed
 pub mod Linking
 pub mod Layout

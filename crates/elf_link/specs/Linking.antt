@@ -6,7 +6,7 @@ use Rattle.ia32_insn.specs.Items.{Symbols, Places, Object, IsOrder, IsText, text
 use Rattle.ia32_asm.specs.declared.section.Section.{Section}
 use Rattle.ia32_asm.specs.declared.section.Relocation.{Relocation}
 use Rattle.ia32_asm.specs.Sections.{Stands, IsSection}
-use Rattle.elf_addresses.specs.Parts.{sections_size, function_of, order_of, IsThere, CanHold}
+use Rattle.elf_link.specs.Parts.{sections_size, function_of, order_of, IsThere, CanHold}
 use Rattle.elf_link.specs.declared.linked.Linked.{Linked}
 
 -- ---- what can be linked

@@ -2,8 +2,8 @@
 use Rattle.std.specs.Prelude.{◌≡◌, ℕ, ◌+◌, List, [], ◌∷◌, length, slice_get, Some}
 use Rattle.ia32_insn.specs.Items.{Object, round_up, text_start, object_addresses}
 use Rattle.ia32_asm.specs.declared.section.Section.{Section}
-use Rattle.elf_addresses.specs.declared.addresses.Addresses.{Addresses}
-use Rattle.elf_addresses.specs.Parts.{order_of, sections_size, objects_size}
+use Rattle.elf_link.specs.declared.addresses.Addresses.{Addresses}
+use Rattle.elf_link.specs.Parts.{order_of, sections_size, objects_size}
 
 -- where each section is, one behind the other from an address on
 abbrev pub addresses_from : ℕ → List Section → List ℕ

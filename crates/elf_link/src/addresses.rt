@@ -1,85 +1,113 @@
-//! Where everything stands in an image.
+ghost use Rattle.std.specs.Prelude.{◌≡◌, ◌<◌, ◌≤◌, ◌+◌, ◌^◌, IfOk, Some, length, map};
+ghost use Rattle.ia32_insn.specs.Items.{elements_size, object_addresses};
+ghost use Rattle.ia32_asm.specs.Sections.{target_address, word_for};
+ghost use Rattle.elf_link.specs.Parts.{CanHold, IsThere, function_of, object_of, objects_size};
+ghost use Rattle.elf_link.specs.Symbols.{symbols_of};
 
-ghost use Rattle.std.specs.Prelude.{◌≡◌, ◌<◌, ◌+◌, ◌^◌, ℕ, IfOk, Some, length, map, slice_get};
-ghost use Rattle.ia32_insn.specs.Items.{IsOrder};
-ghost use Rattle.ia32_asm.specs.declared.section.Section.{Section};
-ghost use Rattle.elf_addresses.specs.Parts.{CanHold, object_of, order_of, sections_size};
-ghost use Rattle.elf_link.specs.Placed.{AreAddresses, AreNumbered, addresses_from};
-
-use elf_addresses::{Addresses, WORD_BYTES, function_of, objects_from};
-use elf_image::{STACK_BYTES, TEXT_ADDRESS};
-use ia32_asm::Section;
+use ia32_asm::{Relocation, Section, Target};
+use ia32_insn::Stub;
 use pcc_base::{DataObject, NoMemory};
 use std::alloc::Global;
 
-/// The bytes of the start, which the text begins with.
-pub(crate) const START_BYTES: u32 = 29;
+/// The bytes of a word: the depth word, and the header of an object.
+pub const WORD_BYTES: u32 = 4;
 
-/// The bytes of the routines, in the order of the text.
-const PUTCHAR_BYTES: u32 = 29;
-
-const GETCHAR_BYTES: u32 = 33;
-
-const EXIT_BYTES: u32 = 11;
-
-const CHECK_BYTES: u32 = 2;
-
-/// The bytes of a page.
-const PAGE: u32 = 4096;
-
-/// The addresses of sections that stand one behind the other from an address on, by the numbers of their functions, and
-/// where they end.
-fn functions_from(
-    alloc: Global,
-    sections: &Vec<Section>,
-    start: u32,
-) -> Result<(Vec<u32>, u32), NoMemory>
-    requires named { (i : ℕ) (s : Section) → slice_get sections.now.items i ≡ Some s → 0 < length s.symbols.items }
-    requires order { IsOrder (length sections.now.items) (order_of sections.now.items) }
-    requires room { start + sections_size sections.now.items < 2 ^ 32 }
-    ensures many { IfOk result (λ r. length r.0.items ≡ length sections.now.items) }
-    ensures addresses { IfOk result (λ r. AreNumbered (order_of sections.now.items)
-        (addresses_from start sections.now.items) r.0.items) }
-    ensures end { IfOk result (λ r. r.1 ≡ start + sections_size sections.now.items) }
-{
-    let mut addresses = Vec::new(alloc);
-    addresses.resize(sections.len(), 0)?;
-    let mut address = start;
-    for section in sections {
-        addresses[function_of(section)] = address;
-        address += section.bytes.len() as u32;
-    }
-    Ok((addresses, address))
+/// Where everything stands that code names, and the end of the stack.
+#[derive(Drop)]
+pub struct Addresses {
+    /// Of each function, by its number.
+    pub functions: Vec<u32>,
+    /// Of element 0 of each static object.
+    pub objects: Vec<u32>,
+    /// Of the depth word.
+    pub depth: u32,
+    /// Of the routine `putchar`.
+    pub putchar: u32,
+    /// Of the routine `getchar`.
+    pub getchar: u32,
+    /// Of the routine `exit`.
+    pub exit: u32,
+    /// Of the trap of a failed check.
+    pub check: u32,
+    /// The end of the stack.
+    pub stack: u32,
 }
 
-/// Where everything stands.
-pub(crate) fn addresses_of(
-    alloc: Global,
-    sections: &Vec<Section>,
-    objects: &Vec<DataObject>,
-) -> Result<Addresses, NoMemory>
-    requires named { (i : ℕ) (s : Section) → slice_get sections.now.items i ≡ Some s → 0 < length s.symbols.items }
-    requires order { IsOrder (length sections.now.items) (order_of sections.now.items) }
-    requires code { sections_size sections.now.items < 2 ^ 30 }
-    requires held { CanHold (map object_of objects.now.items) }
-    ensures { IfOk result (AreAddresses sections.now.items (map object_of objects.now.items)) }
+impl Addresses {
+    fn stub(&self, stub: Stub) -> u32
+        ensures { Some result ≡ target_address (symbols_of self.now) (Target.Stub stub) }
+    {
+        match stub {
+            Stub::Putchar => self.putchar,
+            Stub::Getchar => self.getchar,
+            Stub::Exit => self.exit,
+        }
+    }
+
+    fn of(&self, target: Target) -> u32
+        requires { IsThere (length self.now.functions.items) (length self.now.objects.items) target }
+        ensures { target_address (symbols_of self.now) target ≡ Some result }
+    {
+        match target {
+            Target::Function(function) => self.functions[function as usize],
+            Target::Object(object) => self.objects[object as usize],
+            Target::Stub(stub) => self.stub(stub),
+            Target::Check => self.check,
+            Target::Depth => self.depth,
+        }
+    }
+
+    /// The word that a relocation awaits in a section at an address: the target's address, or its distance
+    /// from the end of the word.
+    pub fn word(&self, relocation: &Relocation, section: u32) -> u32
+        requires there { IsThere (length self.now.functions.items) (length self.now.objects.items)
+            relocation.now.target }
+        requires room { section + relocation.now.at + 4 < 2 ^ 32 }
+        ensures { result ≡ word_for (symbols_of self.now) section relocation.now }
+    {
+        let address = self.of(relocation.target);
+        if relocation.relative {
+            address.wrapping_sub(section + relocation.at + WORD_BYTES)
+        } else {
+            address
+        }
+    }
+}
+
+/// The bytes of an object's elements, in whole words.
+pub fn elements_size(object: &DataObject) -> u32
+    requires size { elements_size (object_of object.now) ≤ 16777216 }
+    requires width { 1 ≤ object.now.width }
+    ensures { result ≡ elements_size (object_of object.now) }
 {
-    let (functions, putchar) = functions_from(alloc, sections, TEXT_ADDRESS + START_BYTES)?;
-    let getchar = putchar + PUTCHAR_BYTES;
-    let exit = getchar + GETCHAR_BYTES;
-    let check = exit + EXIT_BYTES;
-    let text_size = check + CHECK_BYTES - TEXT_ADDRESS;
-    let depth = TEXT_ADDRESS + text_size.next_multiple_of(PAGE);
-    let (objects, data_end) = objects_from(alloc, objects, depth + WORD_BYTES)?;
-    let stack = depth + (data_end - depth).next_multiple_of(WORD_BYTES) + STACK_BYTES;
-    Ok(Addresses {
-        functions,
-        objects,
-        depth,
-        putchar,
-        getchar,
-        exit,
-        check,
-        stack,
-    })
+    (object.width as u32 * object.elements.len() as u32).next_multiple_of(WORD_BYTES)
+}
+
+/// The number of the function that a section's symbol names.
+pub fn function_of(section: &Section) -> usize
+    requires { 0 < length section.now.symbols.items }
+    ensures { result ≡ function_of section.now }
+{
+    section.symbols[0].function as usize
+}
+
+/// The addresses of the elements of objects that stand one behind the other from an address on, and where
+/// they end.
+pub fn objects_from(
+    alloc: Global,
+    objects: &Vec<DataObject>,
+    start: u32,
+) -> Result<(Vec<u32>, u32), NoMemory>
+    requires held { CanHold (map object_of objects.now.items) }
+    requires room { start < 2 ^ 31 }
+    ensures addresses { IfOk result (λ r. r.0.items ≡ object_addresses start (map object_of objects.now.items)) }
+    ensures end { IfOk result (λ r. r.1 ≡ start + objects_size (map object_of objects.now.items)) }
+{
+    let mut addresses = Vec::with_capacity(alloc, objects.len())?;
+    let mut address = start;
+    for object in objects {
+        addresses.push(address + WORD_BYTES)?;
+        address += WORD_BYTES + elements_size(object);
+    }
+    Ok((addresses, address))
 }

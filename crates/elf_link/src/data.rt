@@ -1,8 +1,8 @@
 ghost use Rattle.std.specs.Prelude.{◌≡◌, ◌≤◌, ◌++◌, IfOk, OnOk, map};
 ghost use Rattle.ia32_insn.specs.Items.{data_bytes, element_bytes, elements_size, object_bytes};
-ghost use Rattle.elf_addresses.specs.Parts.{CanHold, object_of};
+ghost use Rattle.elf_link.specs.Parts.{CanHold, object_of};
 
-use elf_addresses::elements_size;
+use crate::addresses::elements_size;
 use pcc_base::{DataObject, NoMemory};
 use std::alloc::Global;
 

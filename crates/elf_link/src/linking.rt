@@ -1,12 +1,12 @@
 ghost use Rattle.std.specs.Prelude.{◌≡◌, ◌+◌, IfOk, List, map, vec_len};
 ghost use Rattle.ia32_insn.specs.declared.item.Item.{Item};
-ghost use Rattle.elf_addresses.specs.Parts.{object_of, order_of, sections_size};
+ghost use Rattle.elf_link.specs.Parts.{object_of, order_of, sections_size};
 ghost use Rattle.elf_link.specs.Layout.{IsLaidOut};
 ghost use Rattle.elf_link.specs.Linking.{AreSections, CanLink, IsLinked};
 ghost use Rattle.elf_link.specs.Placed.{routines_size};
 
-use crate::addresses::{START_BYTES, addresses_of};
 use crate::data::data_of;
+use crate::function_addresses::{START_BYTES, addresses_of};
 use crate::linked::Linked;
 use crate::points::points_of;
 use crate::text::text_of;

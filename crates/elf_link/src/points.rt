@@ -1,11 +1,11 @@
 ghost use Rattle.std.specs.Prelude.{◌≡◌, ◌<◌, ◌≤◌, ◌+◌, ◌^◌, ℕ, IfOk, Some, length, map, slice_get, slice_index};
 ghost use Rattle.ia32_insn.specs.Items.{IsOrder};
 ghost use Rattle.ia32_asm.specs.declared.section.Section.{Section};
-ghost use Rattle.elf_addresses.specs.Parts.{order_of, sections_size};
+ghost use Rattle.elf_link.specs.Parts.{order_of, sections_size};
 ghost use Rattle.elf_link.specs.Placed.{AreNumbered};
 ghost use Rattle.elf_link.specs.Laid.{points_from};
 
-use elf_addresses::function_of;
+use crate::addresses::function_of;
 use ia32_asm::Section;
 use pcc_base::NoMemory;
 use std::alloc::Global;

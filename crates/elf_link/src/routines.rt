@@ -3,9 +3,8 @@
 ghost use Rattle.std.specs.Prelude.{◌≡◌, IfOk};
 ghost use Rattle.ia32_insn.specs.Items.{check_items, exit_items, getchar_items, putchar_items};
 
-use elf_addresses::{EXIT, SYSTEM};
-use ia32_insn::{AluOp, Insn, Item, Mem, Rm8, Rm32};
-use ia32_regs::Reg32;
+use crate::start::{EXIT, SYSTEM};
+use ia32_insn::{AluOp, Insn, Item, Mem, Reg32, Rm32, Rm8};
 use pcc_base::NoMemory;
 use std::alloc::Global;
 

@@ -1,16 +1,17 @@
 ghost use Rattle.std.specs.Prelude.{◌≡◌, ◌<◌, ◌≤◌, ◌+◌, ◌^◌, ◌++◌, ℕ, IfOk, OnOk, Some, length, slice_get, vec_len};
 ghost use Rattle.ia32_insn.specs.Items.{IsOrder};
 ghost use Rattle.ia32_asm.specs.Sections.{CanAssemble, items_size, resolved, with_word};
-ghost use Rattle.elf_addresses.specs.Parts.{order_of, sections_size};
+ghost use Rattle.elf_link.specs.Parts.{order_of, sections_size};
 ghost use Rattle.elf_link.specs.Linking.{FitsIn};
-ghost use Rattle.elf_addresses.specs.Symbols.{symbols_of};
+ghost use Rattle.elf_link.specs.Symbols.{symbols_of};
 ghost use Rattle.elf_link.specs.Placed.{AreInText};
 ghost use Rattle.elf_link.specs.Laid.{AreNamed, HasCode, HasItems, code_from};
 ghost use Rattle.ia32_asm.specs.declared.section.Section.{Section};
 
-use crate::addresses::START_BYTES;
+use crate::addresses::Addresses;
+use crate::function_addresses::START_BYTES;
 use crate::routines::{check_items, exit_items, getchar_items, putchar_items};
-use elf_addresses::{Addresses, start_items};
+use crate::start::start_items;
 use elf_image::TEXT_ADDRESS;
 use ia32_asm::{Section, assemble};
 use ia32_insn::Item;

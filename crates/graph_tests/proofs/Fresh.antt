@@ -3,7 +3,7 @@ use Rattle.std.proofs.Common.{◌≡◌, List, [], ◌∷◌, map, refl, ap, ◌
 use Rattle.puzzle_board.specs.declared.piece.Piece.{Piece}
 use Rattle.puzzle_board.specs.declared.piece.State.TheVariants.{Unplaced}
 use Rattle.puzzle_board.specs.Boards.{Puzzle, standing, standing_in}
-use Rattle.puzzle_texts.specs.Reading.{fresh_board}
+use Rattle.puzzle_solver.specs.Reading.{fresh_board}
 
 none-stands : (pieces : List Piece) → standing_in pieces (map (λ (p : Piece). Unplaced) pieces) ≡ []
 none-stands [] = refl

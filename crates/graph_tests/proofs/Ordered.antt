@@ -4,11 +4,11 @@ use Rattle.std.proofs.Common.{◌∙◌, add-one, ap, take, length, map, arith, 
 use Rattle.std.specs.List.{AllByRecursion, Contains}
 use Rattle.std.proofs.lemmas.List.{length_push}
 use Rattle.puzzle_board.specs.declared.piece.Piece.{Piece}
-use Rattle.puzzle_choices.specs.declared.order.Candidate.{Candidate}
-use Rattle.puzzle_choices.specs.Orders.{IsSpillOrder}
+use Rattle.puzzle_solver.specs.declared.order.Candidate.{Candidate}
+use Rattle.puzzle_solver.specs.Orders.{IsSpillOrder}
 use Rattle.puzzle_board.specs.Boards.{Puzzle, remaining, with_piece}
 use Rattle.puzzle_board.specs.Classes.{IsAmong}
-use Rattle.puzzle_choices.proofs.Orders.{ordered-among, remaining-more}
+use Rattle.puzzle_solver.proofs.Orders.{ordered-among, remaining-more}
 use Rattle.graph_tests.specs.Narrow.{narrow_of}
 
 contains-later :

@@ -1,16 +1,15 @@
 //! The map of a small graph, and the board of one of its points, by hand.
 
-ghost use Rattle.allocator_boards.specs.PointMaps.{bytes_of_arrays};
-ghost use Rattle.allocator_boards.specs.SplitForms.{FixedOperandsDie, placed_count};
+ghost use Rattle.allocator.specs.PointMaps.{bytes_of_arrays};
+ghost use Rattle.allocator.specs.SplitForms.{FixedOperandsDie, placed_count};
 ghost use Rattle.flow_graph.specs.Graphs.{IsPlaced};
 ghost use Rattle.std.specs.Prelude.{◌≡◌, ◌<◌, ◌≤◌, ◌+◌, ◌*◌, length};
 
 use crate::building::{add_var, append, empty_graph};
 use crate::expected::expect;
-use allocator::{allocate, board_of};
-use allocator_boards::{Elementary, split};
+use allocator::{Elementary, allocate, board_of, split};
 use flow_graph::{Graph, Op};
-use liveness::{live, next_use};
+use flow_liveness::{live, next_use};
 use pcc_base::Steps;
 use puzzle_board::PointMap;
 use std::alloc::Global;

@@ -1,13 +1,13 @@
 //! Names in the elementary form of a small graph, by hand.
 
-ghost use Rattle.allocator_boards.specs.SplitForms.{FixedOperandsDie, placed_count};
+ghost use Rattle.allocator.specs.SplitForms.{FixedOperandsDie, placed_count};
 ghost use Rattle.std.specs.Prelude.{◌<◌};
 
 use crate::building::{add_var, append, empty_graph};
 use crate::expected::expect;
-use allocator_boards::split;
+use allocator::split;
 use flow_graph::{Graph, Op};
-use liveness::live;
+use flow_liveness::live;
 use std::alloc::Global;
 use std::process::Abort;
 

@@ -1,7 +1,7 @@
 //! Tests of the public calls of `pcc_base` (`numbers`, `faults`), `pcc_outside` (`memory`, `host`) and
-//! `index_lists` (`list_rows`); of `flow_graph` (`graphs`), `liveness` (`live_points`), `allocator_boards` (`forms`)
+//! `index_lists` (`list_rows`); of `flow_graph` (`graphs`), `flow_liveness` (`live_points`), `allocator` (`forms`)
 //! and `allocator` (`allocation`), whose graphs are built by the steps in `building`; and of `puzzle_board`,
-//! `puzzle_solver` and `puzzle_texts`: rows worked by hand (`rows`), every small board compared with a plain search
+//! `puzzle_solver` and `puzzle_solver`: rows worked by hand (`rows`), every small board compared with a plain search
 //! (`search`), boards and placements as texts (`texts`), and a map of points (`maps`).
 //!
 //! They stand in a crate of their own since a crate with tests is proved a second time; this one needs only what

@@ -3,7 +3,7 @@
 use crate::building::{add_block, add_var, append, empty_graph};
 use crate::expected::expect;
 use flow_graph::{Comparison, Graph, Op};
-use liveness::{live, next_use};
+use flow_liveness::{live, next_use};
 use std::alloc::Global;
 use std::process::Abort;
 

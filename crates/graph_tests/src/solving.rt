@@ -6,8 +6,7 @@ ghost use Rattle.graph_tests.specs.Narrow.{narrow_of};
 
 use pcc_base::{NoMemory, Steps, Width};
 use puzzle_board::{Area, Board, Column, Kind, Piece, Spot};
-use puzzle_choices::{Candidate, spill_order};
-use puzzle_solver::{fit, solve};
+use puzzle_solver::{Candidate, fit, solve, spill_order};
 use std::alloc::Global;
 use std::marker::Brand;
 use std::process::Abort;

@@ -4,8 +4,7 @@ ghost use Rattle.std.specs.Prelude.{◌≡◌, ◌≤◌, length};
 
 use crate::expected::expect;
 use pcc_base::Steps;
-use puzzle_solver::solve;
-use puzzle_texts::{BoardRefusal, print_placement, read_board};
+use puzzle_solver::{BoardRefusal, print_placement, read_board, solve};
 use std::alloc::Global;
 use std::marker::Brand;
 use std::process::Abort;

@@ -8,7 +8,7 @@ use Rattle.std.proofs.lemmas.Option.{same_Some, slice_get-get_or}
 use Rattle.ia32_insn.specs.declared.item.Item.{Item}
 use Rattle.ia32_insn.specs.declared.item.Item.TheVariants as item
 use Rattle.ia32_insn.specs.Spelling.{cond_number}
-use Rattle.ia32_regs.specs.Registers.{number32}
+use Rattle.ia32_insn.specs.Registers.{number32}
 use Rattle.ia32_insn.specs.Items.{ItemsAt}
 use Rattle.ia32_asm.specs.declared.section.Section.{Section}
 use Rattle.ia32_asm.specs.declared.section.Relocation.{Relocation}

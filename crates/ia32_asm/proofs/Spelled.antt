@@ -3,7 +3,7 @@ use Rattle.std.specs.Prelude.{◌≡◌, ⊤, ℕ, ◌+◌, ◌∷◌, ℤ, pos,
 use Rattle.std.specs.Int.{w32}
 use Rattle.std.proofs.Common.{refl, sym, ap, subst, inl, rules}
 use Rattle.std.proofs.lemmas.Option.{MatchOption-at_some, same_Some}
-use Rattle.ia32_regs.specs.Registers.{number32}
+use Rattle.ia32_insn.specs.Registers.{number32}
 use Rattle.ia32_insn.specs.declared.insn.Insn.{Insn}
 use Rattle.ia32_insn.specs.declared.item.Item.{Item}
 use Rattle.ia32_insn.specs.declared.item.Item.TheVariants as item

@@ -5,7 +5,7 @@ use Rattle.std.specs.Int.{w32}
 use Rattle.std.specs.Int.RustNames.{FitsSigned}
 use Rattle.std.proofs.Common.{inl, inr, lit<}
 use Rattle.std.proofs.lemmas.Bool.{cases_Bool}
-use Rattle.ia32_regs.specs.Registers.{number32, number8}
+use Rattle.ia32_insn.specs.Registers.{number32, number8}
 use Rattle.ia32_insn.specs.declared.operand.Rm32.{Rm32}
 use Rattle.ia32_insn.specs.declared.operand.Rm32.TheVariants as rm
 use Rattle.ia32_insn.specs.declared.operand.Rm8.{Rm8}

@@ -2,8 +2,8 @@
 use Rattle.std.specs.Prelude.{◌≡◌, ◌≢◌, ⊤, ℕ, ◌^◌, ℤ, Option, Some, None}
 use Rattle.std.specs.Int.{w32}
 use Rattle.std.specs.Int.RustNames.{FitsSigned}
-use Rattle.ia32_regs.specs.Registers.{number32}
-use Rattle.ia32_regs.specs.declared.names.Reg32.{Reg32}
+use Rattle.ia32_insn.specs.Registers.{number32}
+use Rattle.ia32_insn.specs.declared.register_names.Reg32.{Reg32}
 use Rattle.ia32_insn.specs.declared.insn.Insn.{Insn}
 use Rattle.ia32_insn.specs.declared.insn.Insn.TheVariants as insn
 use Rattle.ia32_insn.specs.Spelling.{Operand, InRegister, InMemory, operand32, operand8}

@@ -13,7 +13,7 @@ mod fields;
 mod numbers;
 mod offsets;
 mod piece;
-mod rows;
+mod opcode_bytes;
 mod section;
 mod spelling;
 

@@ -1,11 +1,10 @@
 ghost use Rattle.std.specs.Prelude.{◌≡◌, ◌<◌, IsTrue};
-ghost use Rattle.ia32_regs.specs.Registers as registers;
+ghost use Rattle.ia32_insn.specs.Registers as registers;
 ghost use Rattle.ia32_insn.specs.Spelling as numbers;
 ghost use Rattle.ia32_insn.specs.Preferred as preferred;
 ghost use Rattle.std.specs.Int.{w8, cast_unsigned};
 
-use ia32_insn::{AluOp, Cond, ShiftOp};
-use ia32_regs::{Reg8, Reg32};
+use ia32_insn::{AluOp, Cond, Reg32, Reg8, ShiftOp};
 
 /// The number of a register of 32 bits.
 pub fn number32(r: Reg32) -> u8

@@ -2,8 +2,8 @@ ghost use Rattle.std.specs.Prelude.{◌≡◌, ◌<◌, ◌≤◌, ◌+◌, ◌^
 ghost use Rattle.ia32_asm.specs.Sections.{IsSpelled, is_relative, item_size, target_of};
 ghost use Rattle.ia32_asm.specs.Pieces.{HasEntry, IsPreferred, distance_in, instruction_in, piece, relocations_in};
 
-use crate::encode;
 use crate::section::{Relocation, Target};
+use crate::spelling::encode;
 use ia32_insn::{Insn, Item, Rm32};
 use pcc_base::NoMemory;
 

@@ -1,40 +1,21 @@
 //! Reading instructions: in go bytes, out comes the instruction whose spelling begins them.
 //!
-//! It is found exactly where there is one, by the definition of spelling of `ia32_insn`. The opcode says what
-//! follows it (`one_byte`, `two_byte`), the fields are read (`fields`, `ia32_fields`, as `specs/Reading.antt` of
-//! `ia32_insn` has it), and the opcode makes an instruction of them (`rows`), with conditions and operations by their
-//! numbers (`numbers`).
+//! In: bytes. Out: the instruction whose spelling begins them, and how many bytes that has. The promise: it is found
+//! exactly where there is one, by the definition of spelling of `ia32_insn`. Nothing is allocated.
+//!
+//! The opcode says what follows it (`one_byte`, `two_byte`), the fields are read (`operand_fields`, `memory_fields`,
+//! `moves`, as `specs/Reading.antt` of `ia32_insn` has it), and the opcode makes an instruction of them (`opcodes`),
+//! with registers, conditions and operations by their numbers (`register_numbers`, `condition_numbers`).
 #![tactic(auto)]
 
-mod fields;
-mod numbers;
+mod condition_numbers;
+mod decoding;
+mod memory_fields;
+mod moves;
 mod one_byte;
-mod rows;
+mod opcodes;
+mod operand_fields;
+mod register_numbers;
 mod two_byte;
 
-ghost use Rattle.std.specs.Prelude.{◌≡◌, ◌≤◌, IfSome, IfNone};
-ghost use Rattle.ia32_insn.specs.Spelling.{Begins, NoneBegins};
-ghost use Rattle.ia32_insn.specs.Reading.{read_insn};
-
-use ia32_insn::Insn;
-
-/// The instruction that begins the bytes, by its opcode.
-#[tactic(auto, unfolding(ia32_insn::specs::Reading::read_insn))]
-fn read(bytes: &[u8]) -> Option<(Insn, usize)>
-    ensures { result ≡ read_insn bytes.now }
-{
-    if bytes.is_empty() {
-        return None;
-    }
-    one_byte::read(bytes[0], &bytes[1..])
-}
-
-/// The instruction whose spelling begins the bytes, and the length of the spelling. None exactly where
-/// no prefix of the bytes is a spelling (Intel manual, volume 2, appendix A).
-pub fn decode(bytes: &[u8]) -> Option<(Insn, usize)>
-    ensures found { IfSome result (λ found. Begins found.0 found.1 bytes.now) }
-    ensures none { IfNone result (NoneBegins bytes.now) }
-    ensures short { IfSome result (λ found. found.1 ≤ 15) }
-{
-    read(bytes)
-}
+pub use decoding::decode;

@@ -20,10 +20,10 @@ ghost use Rattle.ia32_insn.specs.Reading.{
   read_opcode,
 };
 
-use crate::fields::{byte_at, fields8, fields32};
-use crate::numbers::shift_of;
-use crate::{rows, two_byte};
-use ia32_fields::signed_at;
+use crate::condition_numbers::shift_of;
+use crate::memory_fields::signed_at;
+use crate::operand_fields::{byte_at, fields32, fields8};
+use crate::{opcodes, two_byte};
 use ia32_insn::Insn;
 
 /// Nothing follows the opcode.
@@ -31,7 +31,7 @@ use ia32_insn::Insn;
 fn lone(opcode: u8) -> Option<(Insn, usize)>
     ensures { result ≡ read_lone (lone_insn opcode) }
 {
-    let insn = rows::of_opcode(opcode)?;
+    let insn = opcodes::of_opcode(opcode)?;
     Some((insn, 1))
 }
 
@@ -41,7 +41,7 @@ fn with_byte(opcode: u8, rest: &[u8]) -> Option<(Insn, usize)>
     ensures { result ≡ read_with_byte (byte_insn opcode) rest.now }
 {
     let number = byte_at(rest, 0)?;
-    let insn = rows::of_byte(opcode, number)?;
+    let insn = opcodes::of_byte(opcode, number)?;
     Some((insn, 2))
 }
 
@@ -51,7 +51,7 @@ fn with_short(opcode: u8, rest: &[u8]) -> Option<(Insn, usize)>
     ensures { result ≡ read_with_signed 1 1 (short_insn opcode) rest.now }
 {
     let number = signed_at(rest, 0, 1)?;
-    let insn = rows::of_short(opcode, number)?;
+    let insn = opcodes::of_short(opcode, number)?;
     Some((insn, 2))
 }
 
@@ -61,7 +61,7 @@ fn with_long(opcode: u8, rest: &[u8]) -> Option<(Insn, usize)>
     ensures { result ≡ read_with_signed 1 4 (long_insn opcode) rest.now }
 {
     let number = signed_at(rest, 0, 4)?;
-    let insn = rows::of_long(opcode, number)?;
+    let insn = opcodes::of_long(opcode, number)?;
     Some((insn, 5))
 }
 
@@ -71,7 +71,7 @@ fn with_fields32(opcode: u8, rest: &[u8]) -> Option<(Insn, usize)>
     ensures { result ≡ read_with32 1 (fields32_insn opcode) rest.now }
 {
     let (reg, operand, len) = fields32(rest)?;
-    let insn = rows::of_fields32(opcode, reg, operand)?;
+    let insn = opcodes::of_fields32(opcode, reg, operand)?;
     Some((insn, 1 + len))
 }
 
@@ -81,7 +81,7 @@ fn with_fields8(opcode: u8, rest: &[u8]) -> Option<(Insn, usize)>
     ensures { result ≡ read_with8 1 (fields8_insn opcode) rest.now }
 {
     let (reg, operand, len) = fields8(rest)?;
-    let insn = rows::of_fields8(opcode, reg, operand)?;
+    let insn = opcodes::of_fields8(opcode, reg, operand)?;
     Some((insn, 1 + len))
 }
 
@@ -93,7 +93,7 @@ fn with_immediate(opcode: u8, size: usize, rest: &[u8]) -> Option<(Insn, usize)>
 {
     let (reg, operand, len) = fields32(rest)?;
     let number = signed_at(rest, len, size)?;
-    let insn = rows::of_immediate(opcode, reg, operand, number)?;
+    let insn = opcodes::of_immediate(opcode, reg, operand, number)?;
     Some((insn, 1 + len + size))
 }
 

@@ -15,10 +15,10 @@ ghost use Rattle.ia32_insn.specs.Reading.{
   read_two_byte,
 };
 
-use crate::fields::{fields8, fields32};
-use crate::numbers::condition_of;
-use crate::rows;
-use ia32_fields::signed_at;
+use crate::condition_numbers::condition_of;
+use crate::memory_fields::signed_at;
+use crate::opcodes;
+use crate::operand_fields::{fields32, fields8};
 use ia32_insn::Insn;
 
 /// Jcc rel32, by the number of its condition and the bytes after the opcode.
@@ -36,7 +36,7 @@ fn with_fields32(opcode: u8, rest: &[u8]) -> Option<(Insn, usize)>
     ensures { result ≡ read_with32 2 (extended32_insn opcode) rest.now }
 {
     let (reg, operand, len) = fields32(rest)?;
-    let insn = rows::of_extended32(opcode, reg, operand)?;
+    let insn = opcodes::of_extended32(opcode, reg, operand)?;
     Some((insn, 2 + len))
 }
 
@@ -46,7 +46,7 @@ fn with_fields8(opcode: u8, rest: &[u8]) -> Option<(Insn, usize)>
     ensures { result ≡ read_with8 2 (extended8_insn opcode) rest.now }
 {
     let (reg, operand, len) = fields8(rest)?;
-    let insn = rows::of_extended8(opcode, reg, operand)?;
+    let insn = opcodes::of_extended8(opcode, reg, operand)?;
     Some((insn, 2 + len))
 }
 
@@ -84,6 +84,6 @@ pub fn read_sixteen(rest: &[u8]) -> Option<(Insn, usize)>
         return None;
     }
     let (reg, operand, len) = fields32(&rest[1..])?;
-    let insn = rows::of_sixteen(rest[0], reg, operand)?;
+    let insn = opcodes::of_sixteen(rest[0], reg, operand)?;
     Some((insn, 2 + len))
 }

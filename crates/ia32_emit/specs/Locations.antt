@@ -1,6 +1,6 @@
 -- Where variables stand, as the code holds it.
 use Rattle.std.specs.Prelude.{ℕ, suc, ℤ, pos, negsuc, List, map}
-use Rattle.ia32_regs.specs.Places.{Place, InWord, InByte, InSlot}
+use Rattle.ia32_insn.specs.Places.{Place, InWord, InByte, InSlot}
 use Rattle.ia32_emit.specs.declared.locations.Location.{Location}
 use Rattle.ia32_emit.specs.declared.locations.Location.TheVariants as location
 

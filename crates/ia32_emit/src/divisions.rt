@@ -1,8 +1,8 @@
 //! What stands before a division, and where its divisor is then.
 
 ghost use Rattle.std.specs.Prelude.{◌≡◌, ◌==◌, ◌||◌, ◌++◌, OnOk};
-ghost use Rattle.ia32_regs.specs.Registers.{number32};
-ghost use Rattle.ia32_regs.specs.declared.names.Reg32.TheVariants.{Eax, Edx};
+ghost use Rattle.ia32_insn.specs.Registers.{number32};
+ghost use Rattle.ia32_insn.specs.declared.register_names.Reg32.TheVariants.{Eax, Edx};
 ghost use Rattle.ia32_rows.specs.Rows.{clear_divisor, divisor_of, before_division};
 ghost use Rattle.ia32_emit.specs.Locations.{place_of};
 ghost use Rattle.ia32_emit.specs.declared.locations.Location.TheVariants as location;
@@ -10,8 +10,7 @@ ghost use Rattle.ia32_emit.specs.declared.locations.Location.TheVariants as loca
 use crate::instructions::emit;
 use crate::locations::{Location, at_offset, is_same};
 use crate::moves::emit_read;
-use ia32_insn::{Insn, Item, Rm32};
-use ia32_regs::Reg32;
+use ia32_insn::{Insn, Item, Reg32, Rm32};
 use pcc_base::NoMemory;
 
 /// Whether the register is one that a division takes: EAX or EDX.

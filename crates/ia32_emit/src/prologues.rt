@@ -4,7 +4,7 @@ ghost use Rattle.std.specs.Prelude.{◌≡◌, ◌∷◌, [], ◌++◌, pos, OnO
 ghost use Rattle.ia32_insn.specs.Items.{plain};
 ghost use Rattle.ia32_insn.specs.declared.insn.Insn.TheVariants as insn;
 ghost use Rattle.ia32_insn.specs.declared.operand.Rm32.TheVariants as rm;
-ghost use Rattle.ia32_regs.specs.declared.names.Reg32.TheVariants as reg;
+ghost use Rattle.ia32_insn.specs.declared.register_names.Reg32.TheVariants as reg;
 ghost use Rattle.ia32_rows.specs.Rows.{prologue};
 ghost use Rattle.ia32_rows.specs.Filling.{fill};
 ghost use Rattle.ia32_rows.specs.Placements.{below};
@@ -12,8 +12,7 @@ ghost use Rattle.ia32_emit.specs.Locations.{distance};
 
 use crate::instructions::{emit_all, emit_three};
 use crate::locations::{at_offset, at_register};
-use ia32_insn::{AluOp, Cond, Insn, Item, Rm32};
-use ia32_regs::Reg32;
+use ia32_insn::{AluOp, Cond, Insn, Item, Reg32, Rm32};
 use pcc_base::NoMemory;
 
 /// Fills words with the word of a register, from behind the pointer down to the limit; the loop has this label.

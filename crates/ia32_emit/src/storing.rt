@@ -4,7 +4,7 @@ ghost use Rattle.std.specs.Prelude.{◌≡◌, ◌∷◌, ◌++◌, OnOk};
 ghost use Rattle.flow_graph.specs.declared.op.Bits.TheVariants.{Eight};
 ghost use Rattle.ia32_insn.specs.Items.{plain};
 ghost use Rattle.ia32_insn.specs.declared.insn.Insn.TheVariants as insn;
-ghost use Rattle.ia32_regs.specs.declared.names.Reg32.TheVariants.{Edi};
+ghost use Rattle.ia32_insn.specs.declared.register_names.Reg32.TheVariants.{Edi};
 ghost use Rattle.ia32_rows.specs.Rows.{frame_row, static_row, storing, store_to, put_row};
 ghost use Rattle.ia32_emit.specs.Locations.{distance, place_of};
 
@@ -12,8 +12,7 @@ use crate::instructions::{emit, emit_all, emit_three};
 use crate::locations::{Location, at_offset, at_register, low_byte, target_of};
 use crate::moves::{emit_read, emit_write};
 use flow_graph::Bits;
-use ia32_insn::{Insn, Item, Mem, Rm8, Rm32};
-use ia32_regs::{Reg8, Reg32};
+use ia32_insn::{Insn, Item, Mem, Reg32, Reg8, Rm32, Rm8};
 use pcc_base::NoMemory;
 
 /// The address of the frame array whose element 0 stands at an offset from EBP.

@@ -5,8 +5,8 @@ use Rattle.std.specs.List.{AllByRecursion}
 use Rattle.std.proofs.Common.{sym, ◌∙◌, ap}
 use Rattle.byteorder.specs.Endian.{little_bytes}
 use Rattle.pcc_base.specs.Outcome.{End}
-use Rattle.ia32_regs.specs.declared.names.Reg32.TheVariants.{Eax, Ecx, Edx, Ebx, Esp, Ebp}
-use Rattle.ia32_regs.specs.declared.names.Reg8.TheVariants.{Cl}
+use Rattle.ia32_insn.specs.declared.register_names.Reg32.TheVariants.{Eax, Ecx, Edx, Ebx, Esp, Ebp}
+use Rattle.ia32_insn.specs.declared.register_names.Reg8.TheVariants.{Cl}
 use Rattle.ia32_insn.specs.declared.flags.Flags.{Flags}
 use Rattle.ia32_insn.specs.declared.operand.Rm32.{Rm32}
 use Rattle.ia32_insn.specs.declared.operand.Rm32.TheVariants as rm

@@ -1,3 +1,6 @@
+pub mod Registers
+pub mod Words
+pub mod Cells
 pub mod Splices
 pub mod Memory
 pub mod Access

@@ -5,8 +5,8 @@ use Rattle.std.proofs.Common.{sym, ◌∙◌, ap, subst, arith, inl}
 use Rattle.std.proofs.lemmas.List.{length-take-le}
 use Rattle.byteorder.specs.Endian.{little_number, twos_complement}
 use Rattle.byteorder.specs.Numbers.{little_from-take}
-use Rattle.ia32_regs.specs.Registers.{number32}
-use Rattle.ia32_regs.specs.declared.names.Reg32.{Reg32}
+use Rattle.ia32_insn.specs.Registers.{number32}
+use Rattle.ia32_insn.specs.declared.register_names.Reg32.{Reg32}
 use Rattle.ia32_insn.specs.declared.operand.Rm32.TheVariants as rm
 use Rattle.ia32_insn.specs.declared.insn.Insn.{Insn}
 use Rattle.ia32_insn.specs.declared.insn.Insn.TheVariants as insn

@@ -6,9 +6,9 @@ use Rattle.std.specs.Int.{w32, cast_unsigned, cast_signed}
 use Rattle.byteorder.specs.Endian.{little_bytes}
 use Rattle.pcc_base.specs.Bytes.{zeros}
 pub use Rattle.pcc_base.specs.Objects.{Object}
-use Rattle.ia32_regs.specs.Registers.{zero_registers}
-use Rattle.ia32_regs.specs.declared.names.Reg32.{Reg32}
-use Rattle.ia32_regs.specs.declared.names.Reg32.TheVariants.{Eax, Ecx, Edx, Ebx, Esp}
+use Rattle.ia32_insn.specs.Registers.{zero_registers}
+use Rattle.ia32_insn.specs.declared.register_names.Reg32.{Reg32}
+use Rattle.ia32_insn.specs.declared.register_names.Reg32.TheVariants.{Eax, Ecx, Edx, Ebx, Esp}
 use Rattle.ia32_insn.specs.declared.operand.Mem.{Mem}
 use Rattle.ia32_insn.specs.declared.operand.Rm32.TheVariants as rm
 use Rattle.ia32_insn.specs.declared.operand.Rm8.TheVariants as rm8

@@ -1,3 +1,7 @@
+pub mod Registers
+pub mod Words
+pub mod Places
+pub mod WorkedRegisters
 pub mod State
 pub mod Arithmetic
 pub mod Spelling
@@ -6,5 +10,5 @@ pub mod Meaning
 pub mod Runs
 pub mod Items
 pub mod Keeps
-pub mod Worked
+pub mod WorkedStates
 pub mod Reading

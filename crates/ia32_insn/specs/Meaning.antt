@@ -7,11 +7,11 @@ use Rattle.byteorder.specs.Endian.{little_number, little_bytes}
 use Rattle.pcc_base.specs.Outcome.{End, Ended, Trapped, Stopped}
 use Rattle.pcc_base.specs.declared.run.Stop.TheVariants.{Access, Flags as UnknownFlags, Call as NoCall}
 use Rattle.pcc_base.specs.declared.run.Trap.TheVariants.{Divide, Check}
-use Rattle.ia32_regs.specs.Registers.{register, with_register, byte_place}
-use Rattle.ia32_regs.specs.declared.names.Reg32.{Reg32}
-use Rattle.ia32_regs.specs.declared.names.Reg32.TheVariants.{Eax, Ecx, Edx, Ebx, Esp, Ebp}
-use Rattle.ia32_regs.specs.declared.names.Reg8.{Reg8}
-use Rattle.ia32_regs.specs.declared.names.Reg8.TheVariants.{Cl}
+use Rattle.ia32_insn.specs.Registers.{register, with_register, byte_place}
+use Rattle.ia32_insn.specs.declared.register_names.Reg32.{Reg32}
+use Rattle.ia32_insn.specs.declared.register_names.Reg32.TheVariants.{Eax, Ecx, Edx, Ebx, Esp, Ebp}
+use Rattle.ia32_insn.specs.declared.register_names.Reg8.{Reg8}
+use Rattle.ia32_insn.specs.declared.register_names.Reg8.TheVariants.{Cl}
 use Rattle.ia32_insn.specs.declared.flags.Flags.{Flags}
 use Rattle.ia32_insn.specs.declared.operand.Mem.{Mem}
 use Rattle.ia32_insn.specs.declared.operand.Rm32.{Rm32}

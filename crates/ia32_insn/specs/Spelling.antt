@@ -4,8 +4,8 @@
 use Rattle.std.specs.Prelude.{◌≡◌, ◌≢◌, ◌⊎◌, ◌<◌, ℕ, ◌+◌, ◌*◌, ◌/◌, ◌%◌, ◌^◌, ◌≤◌, ℤ, ◌&&◌, ◌==◌, List, [], ◌∷◌, ◌++◌}
 use Rattle.std.specs.Prelude.{length, take, Option, Some, None, option_map, if◌then◌else◌}
 use Rattle.byteorder.specs.Endian.{little_number, twos_complement}
-use Rattle.ia32_regs.specs.Registers.{number32, number8}
-use Rattle.ia32_regs.specs.declared.names.Reg32.{Reg32}
+use Rattle.ia32_insn.specs.Registers.{number32, number8}
+use Rattle.ia32_insn.specs.declared.register_names.Reg32.{Reg32}
 use Rattle.ia32_insn.specs.declared.operand.Mem.{Mem}
 use Rattle.ia32_insn.specs.declared.operand.Rm32.{Rm32}
 use Rattle.ia32_insn.specs.declared.operand.Rm32.TheVariants as rm

@@ -1,5 +1,5 @@
 use crate::insn::{Cond, Insn};
-use ia32_regs::Reg32;
+use crate::register_names::Reg32;
 
 /// A routine of the compiler's own that a program calls, in place of a function of the C library (C99
 /// 7.19.7.6, 7.19.7.9 and 7.20.4.3).

@@ -1,4 +1,4 @@
-use ia32_regs::{Reg8, Reg32};
+use crate::register_names::{Reg32, Reg8};
 
 /// A memory operand: the sum of a base register, an index register times 1, 2, 4 or 8, and a
 /// displacement (Intel manual, volume 1, section 3.7.5). ESP is no index.

@@ -4,9 +4,9 @@ ghost use Rattle.std.specs.Prelude.{◌≡◌, ◌<◌, ◌^◌, ◌∷◌, [], 
 ghost use Rattle.pcc_base.specs.Outcome.{Trapped, Stopped};
 ghost use Rattle.pcc_base.specs.declared.run.Stop.TheVariants.{Flags as UnknownFlags};
 ghost use Rattle.pcc_base.specs.declared.run.Trap.TheVariants.{Divide};
-ghost use Rattle.ia32_regs.specs.Registers.{with_register, zero_registers};
-ghost use Rattle.ia32_regs.specs.declared.names.Reg32.TheVariants.{Eax, Ecx, Edx, Ebx};
-ghost use Rattle.ia32_regs.specs.declared.names.Reg8.TheVariants.{Al, Ah};
+ghost use Rattle.ia32_insn.specs.Registers.{with_register, zero_registers};
+ghost use Rattle.ia32_insn.specs.declared.register_names.Reg32.TheVariants.{Eax, Ecx, Edx, Ebx};
+ghost use Rattle.ia32_insn.specs.declared.register_names.Reg8.TheVariants.{Al, Ah};
 ghost use Rattle.ia32_insn.specs.declared.operand.Rm32.TheVariants.{Reg};
 ghost use Rattle.ia32_insn.specs.declared.operand.Rm8.TheVariants.{Reg as Reg8};
 ghost use Rattle.ia32_insn.specs.declared.insn.AluOp.TheVariants.{Add};
@@ -18,7 +18,7 @@ ghost use Rattle.ia32_insn.specs.State.{State, AreApart, at_address};
 ghost use Rattle.ia32_insn.specs.Spelling.{Spells};
 ghost use Rattle.ia32_insn.specs.Meaning.{Moves, Halts, load, store, store_bytes, effect, perform};
 ghost use Rattle.ia32_insn.specs.Keeps.{AreDisjoint, KeepsAreas, KeepsAllButMemory, KeepsStreams, may_write, may_call};
-ghost use Rattle.ia32_insn.specs.Worked.{bare};
+ghost use Rattle.ia32_insn.specs.WorkedStates.{bare};
 
 /// What is loaded after a number of n bytes was stored: at the same place that number, and elsewhere what was
 /// loaded there before.

@@ -5,7 +5,7 @@ use Rattle.std.proofs.Common.{sym, ◌∙◌, ap, subst, arith}
 use Rattle.std.proofs.lemmas.Bool.Decides.{nat_tests}
 use Rattle.pcc_base.specs.Outcome as outcome
 use Rattle.pcc_base.specs.declared.run.Stop.TheVariants.{Access, Call}
-use Rattle.ia32_regs.specs.declared.names.Reg32.TheVariants.{Eax, Ecx, Edx, Ebx}
+use Rattle.ia32_insn.specs.declared.register_names.Reg32.TheVariants.{Eax, Ecx, Edx, Ebx}
 use Rattle.ia32_insn.specs.State.{State, Area, bytes_at, may_store, stored}
 use Rattle.ia32_insn.specs.Meaning.{Moved, Moves, moved_of, and_then, or_end, word_of, with_word, denied, store_bytes}
 use Rattle.ia32_insn.specs.Meaning.{take_byte, read_call, write_call, SystemCall, Exit, Read, Write, Other, call_of}

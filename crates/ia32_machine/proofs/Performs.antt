@@ -18,9 +18,9 @@ use Rattle.ia32_insn.specs.Meaning.{Moved, Moves, Halts, moved_of, and_then, dec
 use Rattle.ia32_insn.specs.Meaning.{perform}
 use Rattle.ia32_insn.specs.Runs.{StepsAt, Steps}
 use Rattle.ia32_insn.proofs.Streams.{UsesNoStreams, perform-streamed}
-use Rattle.ia32_processor.specs.declared.halt.Halt.{Halt}
-use Rattle.ia32_processor.specs.declared.halt.Halt.TheVariants as halt
-use Rattle.ia32_processor.specs.Answers.{end_of}
+use Rattle.ia32_machine.specs.declared.halt.Halt.{Halt}
+use Rattle.ia32_machine.specs.declared.halt.Halt.TheVariants as halt
+use Rattle.ia32_machine.specs.Answers.{end_of}
 use Rattle.ia32_machine.specs.First.{lent}
 use Rattle.ia32_machine.specs.Lending.{IsPutOn, PutsNothing}
 use Rattle.ia32_machine.specs.Runs.{LeadsTold, StepTold, alone}

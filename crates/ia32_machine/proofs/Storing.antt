@@ -7,11 +7,11 @@ use Rattle.pcc_base.specs.Outcome.{End}
 use Rattle.ia32_insn.specs.Meaning.{and_then, or_end, denied, store, store_bytes}
 use Rattle.ia32_insn.specs.Meaning.{with_word}
 use Rattle.ia32_insn.proofs.Access.{and_then-ok, ok-once}
-use Rattle.ia32_regs.specs.declared.names.Reg32.TheVariants.{Eax}
-use Rattle.ia32_processor.specs.Code.{KeepsCode}
-use Rattle.ia32_processor.proofs.Kept.{store-keeps}
-use Rattle.ia32_processor.specs.Answers.{Leaves, end_of}
-use Rattle.ia32_processor.specs.declared.halt.Halt.{Halt}
+use Rattle.ia32_insn.specs.declared.register_names.Reg32.TheVariants.{Eax}
+use Rattle.ia32_machine.specs.Code.{KeepsCode}
+use Rattle.ia32_machine.proofs.Kept.{store-keeps}
+use Rattle.ia32_machine.specs.Answers.{Leaves, end_of}
+use Rattle.ia32_machine.specs.declared.halt.Halt.{Halt}
 use Rattle.ia32_insn.specs.State.{State, Area, has_bytes, may_store, stored, with_bytes}
 use Rattle.ia32_memory.proofs.Storing.{little_bytes-byte}
 

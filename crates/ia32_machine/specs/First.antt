@@ -1,6 +1,6 @@
 -- The first state of an image.
 use Rattle.std.specs.Prelude.{◌≡◌, ℕ, List, [], map, None}
-use Rattle.ia32_regs.specs.Registers.{zero_registers}
+use Rattle.ia32_insn.specs.Registers.{zero_registers}
 use Rattle.ia32_insn.specs.State.{State}
 use Rattle.elf_image.specs.Segments.{Segments, Loads}
 pub use Rattle.ia32_memory.specs.Cells.{padded}

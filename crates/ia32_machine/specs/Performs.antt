@@ -3,13 +3,13 @@ use Rattle.std.specs.Prelude.{◌≡◌, ℕ, List, Some, None, Result, Ok, Err}
 use Rattle.pcc_base.specs.declared.run.Stop.{Stop}
 use Rattle.pcc_base.specs.declared.run.Stop.TheVariants.{Instruction, Access}
 use Rattle.pcc_outside.specs.Streams.{SinkCounts}
-use Rattle.ia32_regs.specs.declared.names.Reg32.TheVariants.{Ecx, Edx}
+use Rattle.ia32_insn.specs.declared.register_names.Reg32.TheVariants.{Ecx, Edx}
 use Rattle.ia32_insn.specs.declared.insn.Insn.{Insn}
 use Rattle.ia32_insn.specs.State.{State, code_at}
 use Rattle.ia32_insn.specs.Spelling.{Begins, NoneBegins}
 use Rattle.ia32_insn.specs.Meaning.{Moved, moved_of, word_of, read_call, write_call, system_call, perform}
-use Rattle.ia32_processor.specs.declared.halt.Halt.{Halt}
-use Rattle.ia32_processor.specs.declared.halt.Halt.TheVariants as halt
+use Rattle.ia32_machine.specs.declared.halt.Halt.{Halt}
+use Rattle.ia32_machine.specs.declared.halt.Halt.TheVariants as halt
 use Rattle.ia32_machine.specs.Runs.{LeadsTold, StepTold, StepCounts}
 use Rattle.ia32_machine.specs.declared.ends.MachineEnd.{MachineEnd}
 use Rattle.ia32_machine.specs.declared.ends.MachineEnd.TheVariants.{Trapped, Stopped}

@@ -1,7 +1,7 @@
 ghost use Rattle.std.specs.Prelude.{◌≡◌};
 ghost use Rattle.ia32_machine.specs.Performs as performs;
 
-use ia32_processor::Halt;
+use crate::halt::Halt;
 use pcc_base::{Stop, Trap};
 
 /// How a run of the machine ends.

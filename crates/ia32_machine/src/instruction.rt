@@ -1,15 +1,15 @@
 ghost use Rattle.std.specs.Prelude.{◌≡◌, ◌≤◌, ◌↔◌, IfOk, IsTrue};
-ghost use Rattle.ia32_processor.specs.Code.{KeepsCode};
+ghost use Rattle.ia32_machine.specs.Code.{KeepsCode};
 ghost use Rattle.ia32_machine.specs.First.{lent};
 ghost use Rattle.ia32_machine.specs.Lending.{Lends};
 ghost use Rattle.ia32_machine.specs.Performs.{FetchTold, PartTold, PartCounts, insn_moved};
 ghost use Rattle.ia32_machine.specs.Runs.{alone};
 
 use crate::ends::{MachineEnd, end_at};
+use crate::processor::Processor;
 use crate::system_calls::system_call;
 use ia32_decode::decode;
 use ia32_insn::Insn;
-use ia32_processor::Processor;
 use pcc_base::Stop;
 use pcc_outside::{Sink, Source};
 
@@ -56,7 +56,7 @@ pub(crate) fn perform<I: Source, O: Sink>(
         return Ok(());
     }
     let address = processor.eip();
-    match ia32_processor::perform(processor, insn, after) {
+    match crate::effects::perform(processor, insn, after) {
         Ok(()) => Ok(()),
         Err(halt) => Err(end_at(address, halt)),
     }

@@ -5,11 +5,12 @@ ghost use Rattle.ia32_machine.specs.Lending.{Lends};
 ghost use Rattle.ia32_machine.specs.Performs.{PartCounts, AdvanceTold};
 ghost use Rattle.ia32_machine.specs.Runs.{StepTold, StepCounts, RunTold, RunCounts, alone};
 
+use crate::decoded::{Decoded, DecodedTable};
 use crate::ends::{MachineEnd, StepEnd};
 use crate::instruction::{fetch, perform};
+use crate::processor::Processor;
 use elf_image::Loaded;
 use ia32_memory::Memory;
-use ia32_processor::{Decoded, DecodedTable, Processor};
 use pcc_base::NoMemory;
 use pcc_outside::{Sink, Source};
 use std::alloc::Global;
@@ -29,7 +30,7 @@ impl Model for Machine {
 
     ghost Value = { State };
 
-    ghost use Rattle.ia32_processor.specs.Table.{AreDecoded};
+    ghost use Rattle.ia32_machine.specs.Table.{AreDecoded};
 
     ghost view = { λ m. m.processor };
 

@@ -2,15 +2,15 @@ ghost use Rattle.std.specs.Prelude.{◌≡◌, ◌∷◌, [], ℕ, true, List, O
 ghost use Rattle.pcc_outside.specs.Streams.{SinkCounts};
 ghost use Rattle.ia32_insn.specs.State as state;
 ghost use Rattle.ia32_insn.specs.Meaning.{and_then, store_bytes, with_word};
-ghost use Rattle.ia32_processor.specs.Code.{KeepsCode};
+ghost use Rattle.ia32_machine.specs.Code.{KeepsCode};
 ghost use Rattle.ia32_machine.specs.First.{lent};
 ghost use Rattle.ia32_machine.specs.Lending.{IsPutOn, PutsNothing, Lends};
 ghost use Rattle.ia32_machine.specs.Runs.{alone};
 ghost use Rattle.ia32_machine.specs.Performs.{PartTold, PartCounts, read_moved, write_moved, call_moved};
 
 use crate::ends::MachineEnd;
-use ia32_processor::Processor;
-use ia32_regs::Reg32;
+use crate::processor::Processor;
+use ia32_insn::Reg32;
 use pcc_base::Stop;
 use pcc_outside::{Failed, Sink, Source, WriteRefusal};
 

@@ -1,6 +1,6 @@
 -- The end of the run behind the return of `main`.
 use Rattle.std.proofs.Common.{◌≡◌, ℕ, List, [], ◌∷◌, ◌++◌, pos, refl, sym, subst, ◌∙◌}
-use Rattle.ia32_regs.specs.declared.names.Reg32.TheVariants.{Eax, Ebx}
+use Rattle.ia32_insn.specs.declared.register_names.Reg32.TheVariants.{Eax, Ebx}
 use Rattle.ia32_insn.specs.declared.operand.Rm32.TheVariants as rm
 use Rattle.ia32_insn.specs.declared.insn.Insn.TheVariants as insn
 use Rattle.ia32_insn.specs.declared.item.Item.{Item}

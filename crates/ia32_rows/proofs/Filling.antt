@@ -11,8 +11,8 @@ use Rattle.std.proofs.lemmas.List.{get_or-drop}
 use Rattle.byteorder.specs.Endian.{little_from}
 use Rattle.byteorder.specs.Numbers.{little_from-take}
 use Rattle.pcc_base.specs.Outcome.{End}
-use Rattle.ia32_regs.specs.declared.names.Reg32.{Reg32}
-use Rattle.ia32_regs.specs.Registers.{number32}
+use Rattle.ia32_insn.specs.declared.register_names.Reg32.{Reg32}
+use Rattle.ia32_insn.specs.Registers.{number32}
 use Rattle.ia32_insn.specs.declared.operand.Rm32.TheVariants as rm
 use Rattle.ia32_insn.specs.declared.insn.AluOp.TheVariants.{Sub, Cmp}
 use Rattle.ia32_insn.specs.declared.insn.Cond.TheVariants.{Ne}

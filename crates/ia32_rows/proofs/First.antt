@@ -4,7 +4,7 @@ use Rattle.std.proofs.Common.{replicate, get_or, refl, ◌∙◌, inl, inr, arit
 use Rattle.std.proofs.Common.{append_assoc}
 use Rattle.std.proofs.lemmas.Bool.{cases_lt}
 use Rattle.std.proofs.lemmas.List.{length-replicate, get_or-replicate, get_or_past}
-use Rattle.ia32_regs.specs.Registers.{AreRegisters, zero_registers}
+use Rattle.ia32_insn.specs.Registers.{AreRegisters, zero_registers}
 use Rattle.ia32_insn.specs.Items.{Object, Symbols, Places, IsText}
 use Rattle.ia32_insn.specs.Items.{text_start}
 use Rattle.ia32_insn.specs.declared.item.Item.{Item}

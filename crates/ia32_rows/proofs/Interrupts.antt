@@ -3,7 +3,7 @@ use Rattle.std.proofs.Common.{◌≡◌, ℕ, ◌+◌, ◌%◌, ◌≤◌, ◌<�
 use Rattle.std.proofs.Common.{arith}
 use Rattle.std.specs.Prelude.{Result}
 use Rattle.pcc_base.specs.Outcome.{End, Ended}
-use Rattle.ia32_regs.specs.declared.names.Reg32.TheVariants.{Eax, Ecx, Edx, Ebx}
+use Rattle.ia32_insn.specs.declared.register_names.Reg32.TheVariants.{Eax, Ecx, Edx, Ebx}
 use Rattle.ia32_insn.specs.declared.insn.Insn.TheVariants as insn
 use Rattle.ia32_insn.specs.declared.item.Item.{Item}
 use Rattle.ia32_insn.specs.declared.item.Item.TheVariants as item

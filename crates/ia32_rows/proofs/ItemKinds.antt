@@ -5,11 +5,11 @@ use Rattle.std.proofs.Common.{subst, refl, ◌∙◌, arith, Option, map}
 use Rattle.std.specs.Prelude.{◌==◌, ◌||◌, ⊤, ℤ, Bool, true, false, if◌then◌else◌, option_map, slice_get, slice_index_or}
 use Rattle.std.proofs.lemmas.Option.{same_Some}
 pub use Rattle.pcc_base.proofs.Lists.{all-append, all-at, all-weaker, element-at}
-use Rattle.ia32_regs.specs.declared.names.Reg32.{Reg32}
-use Rattle.ia32_regs.specs.declared.names.Reg32.TheVariants.{Eax, Edx, Esi, Edi}
-use Rattle.ia32_regs.specs.declared.names.Reg8.TheVariants.{Cl}
-use Rattle.ia32_regs.specs.Registers.{number32, number8}
-use Rattle.ia32_regs.specs.Places.{Place, InWord, InByte, InSlot}
+use Rattle.ia32_insn.specs.declared.register_names.Reg32.{Reg32}
+use Rattle.ia32_insn.specs.declared.register_names.Reg32.TheVariants.{Eax, Edx, Esi, Edi}
+use Rattle.ia32_insn.specs.declared.register_names.Reg8.TheVariants.{Cl}
+use Rattle.ia32_insn.specs.Registers.{number32, number8}
+use Rattle.ia32_insn.specs.Places.{Place, InWord, InByte, InSlot}
 use Rattle.ia32_insn.specs.declared.operand.Mem.{Mem}
 use Rattle.ia32_insn.specs.declared.operand.Rm32.{Rm32}
 use Rattle.ia32_insn.specs.declared.operand.Rm32.TheVariants as rm

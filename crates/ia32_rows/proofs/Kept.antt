@@ -6,12 +6,12 @@ use Rattle.std.specs.Prelude.{◌⊎◌, ⊤, slice_index}
 use Rattle.std.proofs.lemmas.List.{get_or-set_other}
 use Rattle.pcc_base.specs.declared.run.Width.{Width}
 use Rattle.pcc_base.specs.declared.run.Width.TheVariants.{One, Two}
-use Rattle.ia32_regs.specs.declared.names.Reg32.{Reg32}
-use Rattle.ia32_regs.specs.declared.names.Reg32.TheVariants.{Esp, Ebp}
-use Rattle.ia32_regs.specs.declared.names.Reg8.{Reg8}
-use Rattle.ia32_regs.specs.Registers.{number32, byte_place, word_place}
-use Rattle.ia32_regs.proofs.Registers.{number32_below, little_from-same, get_or-with_four}
-use Rattle.ia32_regs.specs.Places.{Place, InWord, InByte, InSlot}
+use Rattle.ia32_insn.specs.declared.register_names.Reg32.{Reg32}
+use Rattle.ia32_insn.specs.declared.register_names.Reg32.TheVariants.{Esp, Ebp}
+use Rattle.ia32_insn.specs.declared.register_names.Reg8.{Reg8}
+use Rattle.ia32_insn.specs.Registers.{number32, byte_place, word_place}
+use Rattle.ia32_insn.proofs.Registers.{number32_below, little_from-same, get_or-with_four}
+use Rattle.ia32_insn.specs.Places.{Place, InWord, InByte, InSlot}
 use Rattle.ia32_insn.specs.declared.flags.Flags.{Flags}
 use Rattle.ia32_insn.specs.State.{State}
 use Rattle.ia32_insn.specs.Meaning.{load, word_of, with_byte}

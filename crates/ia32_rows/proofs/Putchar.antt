@@ -3,7 +3,7 @@ use Rattle.std.proofs.Common.{◌≡◌, ℕ, ◌+◌, ◌-◌, ◌%◌, ◌^◌
 use Rattle.std.proofs.Common.{subst, ◌∙◌, inl, arith}
 use Rattle.std.specs.Prelude.{Result}
 use Rattle.pcc_base.specs.Outcome.{End}
-use Rattle.ia32_regs.specs.declared.names.Reg32.TheVariants.{Eax, Ecx, Edx, Ebx, Esp, Ebp}
+use Rattle.ia32_insn.specs.declared.register_names.Reg32.TheVariants.{Eax, Ecx, Edx, Ebx, Esp, Ebp}
 use Rattle.ia32_insn.specs.declared.operand.Rm32.TheVariants as rm
 use Rattle.ia32_insn.specs.declared.operand.Rm8.TheVariants as rm8
 use Rattle.ia32_insn.specs.declared.insn.Insn.TheVariants as insn

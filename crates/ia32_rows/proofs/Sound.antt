@@ -8,9 +8,9 @@ use Rattle.std.proofs.lemmas.List.{get_or-drop, get_or-take}
 use Rattle.byteorder.specs.Endian.{little_bytes, little_from}
 use Rattle.byteorder.specs.Numbers.{length-bytes_low_first, little_from-lt}
 use Rattle.pcc_base.specs.Outcome.{End}
-use Rattle.ia32_regs.specs.declared.names.Reg32.{Reg32}
-use Rattle.ia32_regs.specs.Registers.{number32, word_place}
-use Rattle.ia32_regs.proofs.Registers.{register-with_same, register-with_other, AreRegisters-with_register}
+use Rattle.ia32_insn.specs.declared.register_names.Reg32.{Reg32}
+use Rattle.ia32_insn.specs.Registers.{number32, word_place}
+use Rattle.ia32_insn.proofs.Registers.{register-with_same, register-with_other, AreRegisters-with_register}
 use Rattle.ia32_insn.specs.declared.flags.Flags.{Flags}
 use Rattle.ia32_insn.specs.State.{State, Area, IsApart, AreApart, has_bytes, bytes_at, stored, with_bytes, at_address}
 use Rattle.ia32_insn.specs.Meaning.{and_then, or_end, denied, load, load_bytes, store, word_of, with_word, with_flags}

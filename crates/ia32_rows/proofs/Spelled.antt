@@ -1,8 +1,8 @@
 -- How spellings begin: with a byte at least, which is that of NOP for NOP alone.
 use Rattle.std.proofs.Common.{◌≡◌, ◌≢◌, ℕ, ◌+◌, ◌*◌, ◌<◌, ℤ, List, [], ◌∷◌, ◌++◌, ap, ◌∙◌, inl, inr, arith}
 use Rattle.std.proofs.Common.{append_assoc}
-use Rattle.ia32_regs.specs.Registers.{number32, number8}
-use Rattle.ia32_regs.proofs.Registers.{number32_below}
+use Rattle.ia32_insn.specs.Registers.{number32, number8}
+use Rattle.ia32_insn.proofs.Registers.{number32_below}
 use Rattle.ia32_insn.specs.declared.operand.Rm32.TheVariants as rm
 use Rattle.ia32_insn.specs.declared.insn.AluOp.{AluOp}
 use Rattle.ia32_insn.specs.declared.insn.AluOp.TheVariants as alu

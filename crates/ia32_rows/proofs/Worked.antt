@@ -3,7 +3,7 @@ use Rattle.std.proofs.Common.{◌≡◌, ℕ, ◌<◌, List, [], ◌∷◌, Opti
 use Rattle.std.specs.Prelude.{slice_get}
 use Rattle.std.proofs.lemmas.Option.{none-some}
 use Rattle.pcc_base.specs.Bytes.{AreBytes}
-use Rattle.ia32_regs.specs.declared.names.Reg32.TheVariants.{Ebp}
+use Rattle.ia32_insn.specs.declared.register_names.Reg32.TheVariants.{Ebp}
 use Rattle.ia32_insn.specs.State as machine
 use Rattle.ia32_insn.specs.Meaning.{word_of}
 use Rattle.flow_graph.specs.States as graph

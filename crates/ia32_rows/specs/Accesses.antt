@@ -1,10 +1,10 @@
 -- The rows of ops on arrays and static objects. The word of an array is the address of its first element, and 0 where
 -- there is none; how many elements it has stands in the four bytes before them.
 use Rattle.std.specs.Prelude.{ℕ, pos, neg_ℤ, List, [], ◌∷◌, ◌++◌, Some, None}
-use Rattle.ia32_regs.specs.declared.names.Reg32.{Reg32}
-use Rattle.ia32_regs.specs.declared.names.Reg32.TheVariants.{Eax, Esi, Edi}
-use Rattle.ia32_regs.specs.declared.names.Reg8.TheVariants.{Al}
-use Rattle.ia32_regs.specs.Places.{Place, InWord, InByte, InSlot}
+use Rattle.ia32_insn.specs.declared.register_names.Reg32.{Reg32}
+use Rattle.ia32_insn.specs.declared.register_names.Reg32.TheVariants.{Eax, Esi, Edi}
+use Rattle.ia32_insn.specs.declared.register_names.Reg8.TheVariants.{Al}
+use Rattle.ia32_insn.specs.Places.{Place, InWord, InByte, InSlot}
 use Rattle.ia32_insn.specs.declared.operand.Mem.{Mem}
 use Rattle.ia32_insn.specs.declared.operand.Rm32.TheVariants as rm
 use Rattle.ia32_insn.specs.declared.operand.Rm8.TheVariants as rm8

@@ -1,6 +1,6 @@
 -- The row that makes every element of a frame array 0, and how many bytes that is.
 use Rattle.std.specs.Prelude.{◌+◌, ◌-◌, ◌*◌, ◌/◌, ℕ, pos, List, [], ◌∷◌}
-use Rattle.ia32_regs.specs.declared.names.Reg32.TheVariants.{Esi, Edi}
+use Rattle.ia32_insn.specs.declared.register_names.Reg32.TheVariants.{Esi, Edi}
 use Rattle.ia32_insn.specs.declared.operand.Rm32.TheVariants as rm
 use Rattle.ia32_insn.specs.declared.insn.AluOp.TheVariants as alu
 use Rattle.ia32_insn.specs.declared.insn.Cond.TheVariants as cond

@@ -1,12 +1,12 @@
 -- The rows of ops that compute a value from others, and of those that go by a comparison: each in the result's register
 -- where it may, with operands where they stand.
 use Rattle.std.specs.Prelude.{◌==◌, ◌||◌, ℕ, List, [], ◌∷◌, ◌++◌, if◌then◌else◌, Some}
-use Rattle.ia32_regs.specs.declared.names.Reg32.{Reg32}
-use Rattle.ia32_regs.specs.declared.names.Reg32.TheVariants.{Eax, Ecx, Edx, Ebx, Esp, Ebp, Esi, Edi}
-use Rattle.ia32_regs.specs.declared.names.Reg8.{Reg8}
-use Rattle.ia32_regs.specs.declared.names.Reg8.TheVariants.{Al, Cl, Dl, Bl}
-use Rattle.ia32_regs.specs.Registers.{number32, number8}
-use Rattle.ia32_regs.specs.Places.{Place, InWord, InByte, InSlot}
+use Rattle.ia32_insn.specs.declared.register_names.Reg32.{Reg32}
+use Rattle.ia32_insn.specs.declared.register_names.Reg32.TheVariants.{Eax, Ecx, Edx, Ebx, Esp, Ebp, Esi, Edi}
+use Rattle.ia32_insn.specs.declared.register_names.Reg8.{Reg8}
+use Rattle.ia32_insn.specs.declared.register_names.Reg8.TheVariants.{Al, Cl, Dl, Bl}
+use Rattle.ia32_insn.specs.Registers.{number32, number8}
+use Rattle.ia32_insn.specs.Places.{Place, InWord, InByte, InSlot}
 use Rattle.ia32_insn.specs.declared.operand.Rm32.{Rm32}
 use Rattle.ia32_insn.specs.declared.operand.Rm32.TheVariants as rm
 use Rattle.ia32_insn.specs.declared.operand.Rm8.TheVariants as rm8

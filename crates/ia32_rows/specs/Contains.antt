@@ -2,9 +2,9 @@
 use Rattle.std.specs.Prelude.{◌≡◌, ◌≢◌, ◌-◌, ⊤, ℕ, Ok}
 use Rattle.pcc_base.specs.declared.run.Width.{Width}
 use Rattle.pcc_base.specs.declared.run.Width.TheVariants.{One, Two}
-use Rattle.ia32_regs.specs.declared.names.Reg32.TheVariants.{Ebp, Esi, Edi}
-use Rattle.ia32_regs.specs.Registers.{byte_place}
-use Rattle.ia32_regs.specs.Places.{Place, InWord, InByte, InSlot, IsGeneral}
+use Rattle.ia32_insn.specs.declared.register_names.Reg32.TheVariants.{Ebp, Esi, Edi}
+use Rattle.ia32_insn.specs.Registers.{byte_place}
+use Rattle.ia32_insn.specs.Places.{Place, InWord, InByte, InSlot, IsGeneral}
 use Rattle.ia32_insn.specs.State.{State}
 use Rattle.ia32_insn.specs.Meaning.{load, word_of, byte_of}
 use Rattle.ia32_insn.specs.Keeps.{AreDisjoint}

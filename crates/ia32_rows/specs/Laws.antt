@@ -3,11 +3,11 @@ use Rattle.std.specs.Prelude.{◌≡◌, ◌≢◌, ◌%◌, ◌^◌, ◌<◌, �
 use Rattle.std.specs.Int.{w32, cast_unsigned}
 use Rattle.pcc_base.specs.declared.run.Width.{Width}
 use Rattle.pcc_base.specs.declared.run.Width.TheVariants.{One, Two}
-use Rattle.ia32_regs.specs.declared.names.Reg32.{Reg32}
-use Rattle.ia32_regs.specs.declared.names.Reg32.TheVariants.{Esp, Ebp}
-use Rattle.ia32_regs.specs.declared.names.Reg8.{Reg8}
-use Rattle.ia32_regs.specs.Registers.{number32, byte_place}
-use Rattle.ia32_regs.specs.Places.{Place, InWord, InByte, InSlot}
+use Rattle.ia32_insn.specs.declared.register_names.Reg32.{Reg32}
+use Rattle.ia32_insn.specs.declared.register_names.Reg32.TheVariants.{Esp, Ebp}
+use Rattle.ia32_insn.specs.declared.register_names.Reg8.{Reg8}
+use Rattle.ia32_insn.specs.Registers.{number32, byte_place}
+use Rattle.ia32_insn.specs.Places.{Place, InWord, InByte, InSlot}
 use Rattle.ia32_insn.specs.declared.insn.AluOp.{AluOp}
 use Rattle.ia32_insn.specs.declared.insn.AluOp.TheVariants as alu
 use Rattle.ia32_insn.specs.declared.item.Item.{Item}

@@ -1,8 +1,8 @@
 -- Where variables, frame arrays and code stand.
 use Rattle.std.specs.Prelude.{◌≡◌, ℕ, pos, neg_ℤ, List, [], length, map, slice_get, slice_index_or, Option, Some, None}
 use Rattle.std.specs.Prelude.{option_map}
-use Rattle.ia32_regs.specs.declared.names.Reg32.TheVariants.{Ebp}
-use Rattle.ia32_regs.specs.Places.{Place, InSlot}
+use Rattle.ia32_insn.specs.declared.register_names.Reg32.TheVariants.{Ebp}
+use Rattle.ia32_insn.specs.Places.{Place, InSlot}
 use Rattle.ia32_insn.specs.declared.operand.Mem.{Mem}
 use Rattle.ia32_insn.specs.declared.item.Item.{Item}
 use Rattle.ia32_insn.specs.Items.{Object, Places, Symbols, IsText}

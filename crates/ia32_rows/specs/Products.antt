@@ -1,7 +1,7 @@
 -- The law of products.
 use Rattle.std.specs.Prelude.{◌^◌, ◌<◌, ◌≤◌, ℕ}
 use Rattle.pcc_base.specs.declared.run.Width.TheVariants.{Two}
-use Rattle.ia32_regs.specs.Places.{Place}
+use Rattle.ia32_insn.specs.Places.{Place}
 use Rattle.ia32_insn.specs.State.{State}
 use Rattle.ia32_insn.specs.Arithmetic.{product}
 use Rattle.ia32_rows.specs.Sites.{Site, Framed}

@@ -3,8 +3,8 @@
 use Rattle.std.specs.Prelude.{◌≤◌, ◌⊎◌, ◌+◌, ⊤, ℕ, suc, List, [], ◌∷◌, ◌++◌, length, map}
 use Rattle.std.specs.Prelude.{slice_index_or, Some, None, option_map, unwrap_or}
 use Rattle.std.specs.List.{AllByRecursion}
-use Rattle.ia32_regs.specs.declared.names.Reg32.TheVariants.{Eax, Edx}
-use Rattle.ia32_regs.specs.Places.{Place, InSlot}
+use Rattle.ia32_insn.specs.declared.register_names.Reg32.TheVariants.{Eax, Edx}
+use Rattle.ia32_insn.specs.Places.{Place, InSlot}
 use Rattle.ia32_insn.specs.declared.insn.AluOp.TheVariants as alu
 use Rattle.ia32_insn.specs.declared.insn.Insn.TheVariants as insn
 use Rattle.ia32_insn.specs.declared.insn.ShiftOp.TheVariants as shift

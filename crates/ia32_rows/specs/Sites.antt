@@ -1,7 +1,7 @@
 -- Where code and data of a function stand, and what is known of a state within it.
 use Rattle.std.specs.Prelude.{◌≡◌, ℕ, ◌+◌, ◌<◌, ◌≤◌, ⊤, true, false, List, [], ◌∷◌, length, Ok}
-use Rattle.ia32_regs.specs.declared.names.Reg32.TheVariants.{Esp, Ebp}
-use Rattle.ia32_regs.specs.Registers.{AreRegisters}
+use Rattle.ia32_insn.specs.declared.register_names.Reg32.TheVariants.{Esp, Ebp}
+use Rattle.ia32_insn.specs.Registers.{AreRegisters}
 use Rattle.ia32_insn.specs.declared.item.Item.{Item}
 use Rattle.ia32_insn.specs.State.{State, Area}
 use Rattle.ia32_insn.specs.Meaning.{load, word_of}

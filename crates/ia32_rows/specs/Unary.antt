@@ -1,7 +1,7 @@
 -- Laws of the rows that change one word, to its negation and to its complement, and of those that extend a byte.
 use Rattle.std.specs.Prelude.{◌^◌, ◌<◌, ◌≤◌, ℕ}
 use Rattle.pcc_base.specs.declared.run.Width.TheVariants.{One, Two}
-use Rattle.ia32_regs.specs.Places.{Place}
+use Rattle.ia32_insn.specs.Places.{Place}
 use Rattle.ia32_insn.specs.declared.insn.Insn.TheVariants as insn
 use Rattle.ia32_insn.specs.State.{State}
 use Rattle.ia32_insn.specs.Arithmetic.{complement, extended8, negation}

@@ -1,8 +1,8 @@
 -- The items of ops, over slots and over registers.
 use Rattle.std.specs.Prelude.{◌≡◌, pos, negsuc, List, [], ◌∷◌, slice_get, Some, None}
-use Rattle.ia32_regs.specs.declared.names.Reg32.TheVariants.{Eax, Ecx, Edx, Ebx, Esp, Ebp, Esi, Edi}
-use Rattle.ia32_regs.specs.declared.names.Reg8.TheVariants.{Al, Bl, Bh, Cl}
-use Rattle.ia32_regs.specs.Places.{Place, InWord, InByte, InSlot}
+use Rattle.ia32_insn.specs.declared.register_names.Reg32.TheVariants.{Eax, Ecx, Edx, Ebx, Esp, Ebp, Esi, Edi}
+use Rattle.ia32_insn.specs.declared.register_names.Reg8.TheVariants.{Al, Bl, Bh, Cl}
+use Rattle.ia32_insn.specs.Places.{Place, InWord, InByte, InSlot}
 use Rattle.ia32_insn.specs.declared.operand.Rm32.TheVariants as rm
 use Rattle.ia32_insn.specs.declared.operand.Rm8.TheVariants as rm8
 use Rattle.ia32_insn.specs.declared.insn.AluOp.TheVariants as alu

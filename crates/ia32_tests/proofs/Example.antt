@@ -5,7 +5,7 @@ use Rattle.std.specs.List.{filter_map}
 use Rattle.std.proofs.Common.{refl, sym, ap, ◌∙◌, subst, arith, inl}
 use Rattle.std.proofs.lemmas.Option.{same_Some}
 use Rattle.pcc_base.specs.declared.object.DataObject.{DataObject}
-use Rattle.ia32_regs.specs.declared.names.Reg32.TheVariants.{Eax}
+use Rattle.ia32_insn.specs.declared.register_names.Reg32.TheVariants.{Eax}
 use Rattle.ia32_insn.specs.declared.operand.Rm32.TheVariants as rm
 use Rattle.ia32_insn.specs.declared.insn.Insn.TheVariants as insn
 use Rattle.ia32_insn.specs.declared.item.Item.{Item}
@@ -16,7 +16,7 @@ use Rattle.ia32_asm.specs.declared.section.Symbol.{Symbol}
 use Rattle.ia32_asm.specs.declared.section.Relocation.{Relocation}
 use Rattle.ia32_asm.specs.declared.section.Target.TheVariants as target
 use Rattle.ia32_asm.specs.Sections.{CanAssemble, IsSection, items_size, target_of}
-use Rattle.elf_addresses.specs.Parts.{CanHold, IsThere, function_of, object_of, order_of}
+use Rattle.elf_link.specs.Parts.{CanHold, IsThere, function_of, object_of, order_of}
 use Rattle.elf_link.specs.Linking.{FitsIn, CanLink}
 use Rattle.elf_link.proofs.RoutineItems.{plainly_can, word_to, returned}
 use Rattle.elf_link.proofs.Alone.{number-alone, order-alone}

@@ -1,7 +1,7 @@
 -- The items of the table of tests can be assembled.
 use Rattle.std.specs.Prelude.{◌≡◌, ℕ, List, [], ◌∷◌}
 use Rattle.std.proofs.Common.{refl, sym, subst, arith}
-use Rattle.ia32_regs.specs.declared.names.Reg32.TheVariants.{Eax}
+use Rattle.ia32_insn.specs.declared.register_names.Reg32.TheVariants.{Eax}
 use Rattle.ia32_insn.specs.declared.insn.Cond.TheVariants.{E}
 use Rattle.ia32_insn.specs.declared.insn.Insn.TheVariants as insn
 use Rattle.ia32_insn.specs.declared.item.Item.{Item}

@@ -6,8 +6,7 @@ ghost use Rattle.flow_graph.specs.Graphs.{with_op, FitsOp, IsEnded};
 use crate::expected::expect;
 use crate::rows::expect_printed;
 use flow_graph::{Comparison, Graph, Op, Words};
-use ia32_frames::{Frame, frames_support, offsets_are_below};
-use ia32_functions::select_function;
+use ia32_select::{Frame, frames_support, offsets_are_below, select_function};
 use pcc_base::Width;
 use std::process::Abort;
 

@@ -2,8 +2,7 @@
 
 use crate::expected::expect;
 use ia32_asm::{Relocation, Symbol, Target, assemble};
-use ia32_insn::{Cond, Insn, Item};
-use ia32_regs::Reg32;
+use ia32_insn::{Cond, Insn, Item, Reg32};
 use std::test::Fail;
 
 /// The bytes are those that GNU as 2.40 gives for

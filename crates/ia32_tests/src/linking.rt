@@ -3,8 +3,7 @@
 use crate::expected::expect;
 use elf_link::link;
 use ia32_asm::{Relocation, Section, Symbol, Target, assemble};
-use ia32_insn::{Insn, Item, Rm32};
-use ia32_regs::Reg32;
+use ia32_insn::{Insn, Item, Reg32, Rm32};
 use pcc_base::DataObject;
 use std::test::Fail;
 

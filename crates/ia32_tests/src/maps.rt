@@ -3,8 +3,8 @@
 use crate::expected::expect;
 use crate::rows::number_of;
 use flow_graph::Words;
+use map_text::{Line, Named, Standing, print_lines, push_address, push_number};
 use pcc_base::{Name, Width};
-use pcc_listing::{Line, Named, Standing, print_lines, push_address, push_number};
 use std::alloc::Global;
 use std::process::Abort;
 use std::rc::Rc;

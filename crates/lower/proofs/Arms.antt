@@ -6,8 +6,8 @@ use Rattle.std.specs.Prelude.{Bool}
 use Rattle.c_tree.specs.Program.{Expression, First, Statement, If, While, Do, For}
 use Rattle.flow_graph.specs.declared.op.Op.TheVariants as op
 use Rattle.lower_builder.specs.Built.{Built, Adds}
-use Rattle.lower.specs.Fronts.{for_front, if_front, tested_front, while_front}
-use Rattle.lower_loops.specs.Fronts.{do_end, do_front}
+use Rattle.lower.specs.StatementFronts.{for_front, if_front, tested_front, while_front}
+use Rattle.lower.specs.LoopFronts.{do_end, do_front}
 use Rattle.lower.specs.Walks.{AddsIf}
 use Rattle.lower.proofs.Alike.{alike}
 use Rattle.lower.proofs.Whole.{do-whole, if-none, if-some, loop-whole}
@@ -19,8 +19,8 @@ use Rattle.lower_lines.specs.Statements.{first_lines}
 use Rattle.lower_lines.specs.Statements.{loop_blocks, loop_lines, run_of}
 use Rattle.lower_lines.specs.Statements.{test_blocks_if_any}
 use Rattle.lower_lines.specs.Variables.{Context}
-use Rattle.lower_pieces.proofs.Joined.{nothing, two}
-use Rattle.lower_leaves.proofs.Chained.{next-to}
+use Rattle.lower_builder.proofs.Joined.{nothing, two}
+use Rattle.lower_expressions.proofs.Chained.{next-to}
 
 -- the flag of before, by another name
 pub since : {old first new : Bool} {s t : Built} {n : ℕ} {ls : List Line} → first ≡ old → AddsIf first new s t n ls

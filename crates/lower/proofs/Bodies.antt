@@ -9,7 +9,7 @@ use Rattle.lower_lines.specs.Lines.{Line, Emit, Start}
 use Rattle.lower_lines.specs.Programs.{blocks_of_function, body_run, lines_of_function, no_exits, parameters_lines}
 use Rattle.lower_lines.specs.Statements.{Leaves, none_labelled, runs_of, sequence_blocks, sequence_lines}
 use Rattle.lower_lines.specs.Variables.{Context}
-use Rattle.lower_leaves.proofs.Chained.{next-to}
+use Rattle.lower_expressions.proofs.Chained.{next-to}
 
 -- the lines of a function whose body begins with this block
 abbrev pub from_block : Context → ℕ → List Line

@@ -4,8 +4,8 @@ use Rattle.std.proofs.Common.{drop, length, Option, Some, None, Bool, true, fals
 use Rattle.std.specs.Prelude.{get_or, if◌then◌else◌}
 use Rattle.std.proofs.lemmas.Option.{same_Some}
 use Rattle.c_tree.specs.declared.statement.Label.{Label}
-use Rattle.lower.specs.Starts.{AreStarts}
-use Rattle.lower_loops.specs.Starts.{starts_at}
+use Rattle.lower.specs.LabelStarts.{AreStarts}
+use Rattle.lower.specs.StartedBlocks.{starts_at}
 use Rattle.lower_lines.specs.Statements.{has_label, labelled_before, labelled_from}
 
 pub one-of : {A : Type 0} (xs : List A) (i : ℕ) (d : A) → i < length xs

@@ -19,9 +19,9 @@ use Rattle.lower_builder.specs.Graphs.{AllFit, AreClosed}
 use Rattle.lower_lines.proofs.Closing.{all-lines-close}
 use Rattle.lower_lines.proofs.Ordered.{graphs-are-laid-out}
 use Rattle.lower_lines.proofs.Shapes.{length-range}
-use Rattle.lower_programs.specs.FitsLaws.{IsGood, Room}
-use Rattle.lower_programs.proofs.Functions.{function-fits}
-use Rattle.lower_programs.proofs.Sizes.{counts-small, function-small}
+use Rattle.lower_laws.specs.FitsLaws.{IsGood, Room}
+use Rattle.lower_laws.proofs.Functions.{function-fits}
+use Rattle.lower_laws.proofs.Sizes.{counts-small, function-small}
 
 module _ (p : Program) (well : WellTyped p) (memory : IsInMemory p) (k : ℕ) (f : Function)
     (at : slice_get p.functions k ≡ Some f) where

@@ -11,7 +11,7 @@ use Rattle.lower.proofs.Resting.{Rests}
 use Rattle.lower_lines.specs.Lines.{Line, Emit, Start}
 use Rattle.lower_lines.specs.Statements.{Case, case_of, cases_of, comparing, comparing_blocks, labelled_before}
 use Rattle.lower_lines.specs.Variables.{Context, ForScratch, temporary}
-use Rattle.lower_leaves.proofs.Chained.{behind}
+use Rattle.lower_expressions.proofs.Chained.{behind}
 
 -- one block for each case but the last
 pub behind-count : (cases : List Case) → length cases - 1 ≡ comparing_blocks cases

@@ -1,3 +1,4 @@
+mod Places
 pub mod Closed
 pub mod Alike
 pub mod Arms

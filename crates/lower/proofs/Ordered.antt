@@ -11,8 +11,8 @@ use Rattle.lower_lines.specs.Lines.{Line}
 use Rattle.lower_lines.specs.Statements.{After, Exits, Labelled, Run, run_of, runs_of, sequence_blocks, sequence_lines}
 use Rattle.lower_lines.specs.Statements.{started, towards}
 use Rattle.lower_lines.specs.Variables.{Context}
-use Rattle.lower_pieces.proofs.Joined.{counted, lined, nothing, two}
-use Rattle.lower_leaves.proofs.Chained.{next-to}
+use Rattle.lower_builder.proofs.Joined.{counted, lined, nothing, two}
+use Rattle.lower_expressions.proofs.Chained.{next-to}
 
 -- ---- the statements from a place on, behind others
 

@@ -14,9 +14,9 @@ use Rattle.lower_lines.specs.Statements.{array_blocks, array_lines, elements_blo
 use Rattle.lower_lines.specs.Statements.{item_blocks, item_lines, items_blocks}
 use Rattle.lower_lines.specs.Statements.{items_lines}
 use Rattle.lower_lines.specs.Variables.{Context, own}
-use Rattle.lower_leaves.proofs.Chained.{next-to}
-use Rattle.lower_leaves.specs.Copies.{text_lines}
-use Rattle.lower_pieces.proofs.Joined.{lined, nothing, two}
+use Rattle.lower_expressions.proofs.Chained.{next-to}
+use Rattle.lower_expressions.specs.Copies.{text_lines}
+use Rattle.lower_builder.proofs.Joined.{lined, nothing, two}
 
 abbrev pub Rests : Built → ℕ → (ℕ → List Line) → Built → ℕ → List Line → Type 0
 Rests now blocks lines initial all whole =

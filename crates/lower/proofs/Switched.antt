@@ -9,7 +9,7 @@ use Rattle.c_tree.specs.Program as typed
 use Rattle.flow_graph.specs.declared.op.Op.TheVariants as op
 use Rattle.lower_builder.specs.Built.{Built, Adds}
 use Rattle.lower.specs.Walks.{AddsIf, has_start, switch_blocks, switch_front}
-use Rattle.lower_loops.specs.Starts.{starts_at}
+use Rattle.lower.specs.StartedBlocks.{starts_at}
 use Rattle.lower.proofs.Alike.{alike}
 use Rattle.lower.proofs.Comparisons.{blocks-same}
 use Rattle.lower.proofs.Ordered.{runs}
@@ -22,8 +22,8 @@ use Rattle.lower_lines.specs.Statements.{default_block, exit_blocks, exit_lines,
 use Rattle.lower_lines.specs.Statements.{labelled_from, opening, opening_blocks, run_of, runs_of, sequence_blocks}
 use Rattle.lower_lines.specs.Statements.{sequence_lines, started, towards}
 use Rattle.lower_lines.specs.Variables.{Context}
-use Rattle.lower_pieces.proofs.Joined.{counted, lined, taken, two}
-use Rattle.lower_leaves.proofs.Chained.{behind, next-to, same-next}
+use Rattle.lower_builder.proofs.Joined.{counted, lined, taken, two}
+use Rattle.lower_expressions.proofs.Chained.{behind, next-to, same-next}
 
 -- ---- up to the body
 

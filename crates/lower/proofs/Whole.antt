@@ -5,8 +5,8 @@ use Rattle.std.specs.Prelude.{Bool, if◌then◌else◌}
 use Rattle.c_tree.specs.Program.{Expression}
 use Rattle.flow_graph.specs.declared.op.Op.TheVariants as op
 use Rattle.lower_builder.specs.Built.{Built, Adds}
-use Rattle.lower.specs.Fronts.{if_front, tested_front}
-use Rattle.lower_loops.specs.Fronts.{do_end, do_front}
+use Rattle.lower.specs.StatementFronts.{if_front, tested_front}
+use Rattle.lower.specs.LoopFronts.{do_end, do_front}
 use Rattle.lower_lines.specs.Expressions.{test_blocks_of}
 use Rattle.lower_lines.specs.Lines.{Line, Start, Emit}
 use Rattle.lower_lines.specs.Parts.{Part, Tests}
@@ -15,8 +15,8 @@ use Rattle.lower_lines.specs.Statements.{do_run, exit_blocks, exit_lines, exit_o
 use Rattle.lower_lines.specs.Statements.{if_run, loop_lines, second_block, second_lines}
 use Rattle.lower_lines.specs.Statements.{test_blocks_if_any, test_if_any}
 use Rattle.lower_lines.specs.Variables.{Context}
-use Rattle.lower_pieces.proofs.Joined.{counted, lined, two}
-use Rattle.lower_leaves.proofs.Chained.{behind}
+use Rattle.lower_builder.proofs.Joined.{counted, lined, two}
+use Rattle.lower_expressions.proofs.Chained.{behind}
 
 -- the start of the block behind a statement, by its number
 pub exit-same : (c : Context) (block : ℕ) (after : After) → exit_lines c (exit_of block after) after

@@ -1,4 +1,6 @@
+pub mod LoopFronts
+pub mod StartedBlocks
 pub mod Graphs
 pub mod Walks
-pub mod Fronts
-pub mod Starts
+pub mod StatementFronts
+pub mod LabelStarts

@@ -7,13 +7,12 @@ ghost use Rattle.lower_lines.specs.Lines.{Emit, Start};
 ghost use Rattle.lower_lines.specs.Programs.{blocks_of_function, body_run, lines_of_function, no_exits};
 ghost use Rattle.lower_lines.specs.Programs.{parameters_lines};
 ghost use Rattle.lower_lines.specs.Statements.{Leaves};
-ghost use Rattle.lower_pieces.specs.Sites.{context_of};
+ghost use Rattle.lower_builder.specs.Sites.{context_of};
 
 use crate::walk::sequence;
 use flow_graph::Op;
-use lower_builder::Lines;
-use lower_pieces::Site;
-use lower_rows::{After, Ahead, Exits, take_parameters};
+use lower_builder::{Lines, Site};
+use lower_expressions::{After, Ahead, Exits, take_parameters};
 use pcc_base::NoMemory;
 
 /// The start of a call, and the body.

@@ -12,14 +12,12 @@ ghost use Rattle.lower_lines.specs.Statements.{first_blocks};
 ghost use Rattle.lower_lines.specs.Statements.{first_lines, item_blocks, item_lines, items_blocks, items_lines};
 ghost use Rattle.lower_lines.specs.Statements.{local_blocks, local_lines};
 ghost use Rattle.lower_lines.specs.Variables.{own};
-ghost use Rattle.lower_pieces.specs.Sites.{context_of};
+ghost use Rattle.lower_builder.specs.Sites.{context_of};
 
 use c_tree::{Expression, First, Initialiser, IntegerType, Item};
 use flow_graph::Op;
-use lower_builder::Lines;
-use lower_emit::{assign_local, emit, stood};
-use lower_leaves::{clear_array, copy_text, reads_none, store_element, zero};
-use lower_pieces::{Site, Wanted};
+use lower_builder::{Lines, Site, Wanted};
+use lower_expressions::{assign_local, clear_array, copy_text, emit, reads_none, stood, store_element, zero};
 use pcc_base::NoMemory;
 
 /// A local takes the value of its initialiser.

@@ -1,15 +1,15 @@
 //! Labels of a switch (C99 6.8.1): the blocks of the statements that have some, their starts, and the cases.
 
 ghost use Rattle.std.specs.Prelude.{◌≡◌, ◌+◌, ◌<◌, ℕ, false, length, get_or, IfOk, OnOk};
-ghost use Rattle.lower.specs.Starts.{AreStarts};
+ghost use Rattle.lower.specs.LabelStarts.{AreStarts};
 ghost use Rattle.lower_builder.specs.Built.{Adds};
-ghost use Rattle.lower_loops.specs.Starts.{starts_at};
+ghost use Rattle.lower.specs.StartedBlocks.{starts_at};
 ghost use Rattle.lower_lines.specs.Statements.{cases_of as all_cases, default_block, has_label, labelled_before};
 ghost use Rattle.lower_lines.specs.Statements.{labelled_from, started};
 
+use crate::started_blocks::block_at;
 use c_tree::Label;
 use lower_builder::{Lines, plus};
-use lower_loops::block_at;
 use pcc_base::NoMemory;
 use std::alloc::Global;
 

@@ -6,11 +6,10 @@ ghost use Rattle.c_tree.specs.WellTyped.{WellTyped};
 ghost use Rattle.lower_lines.specs.Programs.{graph_of_function};
 ghost use Rattle.lower_lines.specs.Words.{IsInMemory};
 
-use crate::function as lines_of;
+use crate::functions::function as lines_of;
 use c_tree::{Function, Program};
 use flow_graph::Graph;
-use lower_builder::{arrays_of, widths_of};
-use lower_pieces::Site;
+use lower_builder::{Site, arrays_of, widths_of};
 use pcc_base::NoMemory;
 use std::alloc::Global;
 

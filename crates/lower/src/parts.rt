@@ -4,7 +4,7 @@ ghost use Rattle.std.specs.Prelude.{◌≡◌, ◌+◌, ◌∷◌, [], suc, IfOk
 ghost use Rattle.c_tree.specs.Erased.{boxed_of, expression_of, first_of, statement_of, statements_of};
 ghost use Rattle.flow_graph.specs.declared.op.Op.TheVariants as op;
 ghost use Rattle.lower_builder.specs.Built.{Adds};
-ghost use Rattle.lower.specs.Fronts.{for_front, if_front, returned_whole, while_front};
+ghost use Rattle.lower.specs.StatementFronts.{for_front, if_front, returned_whole, while_front};
 ghost use Rattle.lower_lines.specs.Expressions.{part_of, test_blocks_of};
 ghost use Rattle.lower_lines.specs.Lines.{Emit, Start};
 ghost use Rattle.lower_lines.specs.Statements.{after_blocks, after_lines, continue_block, dead, dead_blocks};
@@ -13,17 +13,15 @@ ghost use Rattle.lower_lines.specs.Statements.{returned_blocks, returned_lines, 
 ghost use Rattle.lower_lines.specs.Statements.{test_blocks_if_any};
 ghost use Rattle.lower_lines.specs.Statements.{test_if_any};
 ghost use Rattle.lower_lines.specs.Variables.{Context};
-ghost use Rattle.lower_pieces.specs.Sites.{context_of};
-ghost use Rattle.lower_rows.specs.Views.{after_of};
+ghost use Rattle.lower_builder.specs.Sites.{context_of};
+ghost use Rattle.lower_expressions.specs.Views.{after_of};
 
 use crate::items::first_part;
+use crate::turns::{Ends, start_loop};
 use c_tree::{Expression, First, Statement};
 use flow_graph::Op;
-use lower_builder::Lines;
-use lower_emit::{emit, returned};
-use lower_loops::{Ends, start_loop};
-use lower_pieces::{Site, Wanted};
-use lower_rows::{After, Ahead, start_dead, take_dead, take_exit};
+use lower_builder::{Lines, Site, Wanted};
+use lower_expressions::{After, Ahead, emit, returned, start_dead, take_dead, take_exit};
 use pcc_base::NoMemory;
 
 /// Whether there are no statements.

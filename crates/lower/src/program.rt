@@ -16,16 +16,16 @@ ghost use Rattle.lower_lines.specs.Lowering.{
 };
 ghost use Rattle.lower_lines.specs.Programs.{lowered};
 ghost use Rattle.lower_lines.specs.Words.{IsInMemory};
-ghost use Rattle.lower_programs.specs.Declared.{IsDeclaredFirst};
-ghost use Rattle.lower_programs.specs.SettledLaws.{HaveLiveness, NothingLiveFirst};
+ghost use Rattle.lower_laws.specs.Declared.{IsDeclaredFirst};
+ghost use Rattle.lower_laws.specs.SettledLaws.{HaveLiveness, NothingLiveFirst};
 
 use crate::graphs::Graphs;
 use crate::lowered::graph;
 use crate::objects::objects_of;
 use c_tree::Program;
 use flow_graph::{Graph, never_stuck};
+use lower_laws::{all_programs_lower, first_points_hold, graphs_are_there, liveness_holds};
 use lower_lines::{graphs_are_small, marks_hold, objects_hold, shapes_hold};
-use lower_programs::{all_programs_lower, first_points_hold, graphs_are_there, liveness_holds};
 use pcc_base::NoMemory;
 use std::alloc::Global;
 

@@ -6,22 +6,20 @@ ghost use Rattle.flow_graph.specs.declared.op.Comparison.TheVariants.{Eq};
 ghost use Rattle.flow_graph.specs.declared.op.Op.TheVariants as op;
 ghost use Rattle.lower_builder.specs.Built.{Adds};
 ghost use Rattle.lower.specs.Walks.{has_start, switch_blocks, switch_front};
-ghost use Rattle.lower_loops.specs.Starts.{starts_at};
+ghost use Rattle.lower.specs.StartedBlocks.{starts_at};
 ghost use Rattle.lower_lines.specs.Expressions.{part_of};
 ghost use Rattle.lower_lines.specs.Lines.{Emit};
 ghost use Rattle.lower_lines.specs.Statements.{comparing, comparing_blocks, exit_blocks, exit_of, labelled_from};
 ghost use Rattle.lower_lines.specs.Statements.{opening, opening_blocks};
 ghost use Rattle.lower_lines.specs.Variables.{ForScratch, temporary};
-ghost use Rattle.lower_pieces.specs.Sites.{context_of};
-ghost use Rattle.lower_rows.specs.Views.{after_of};
+ghost use Rattle.lower_builder.specs.Sites.{context_of};
+ghost use Rattle.lower_expressions.specs.Views.{after_of};
 
 use crate::labels::{cases_of, otherwise_of, starts_of};
 use c_tree::{Expression, Label};
 use flow_graph::{Comparison, Op};
-use lower_builder::{Lines, plus};
-use lower_emit::stood;
-use lower_pieces::Site;
-use lower_rows::{After, take_exit};
+use lower_builder::{Lines, Site, plus};
+use lower_expressions::{After, stood, take_exit};
 use pcc_base::NoMemory;
 
 /// How many blocks the comparisons with cases take: each but the last has one behind it.

@@ -3,23 +3,21 @@
 ghost use Rattle.std.specs.Prelude.{◌≡◌, OnOk};
 ghost use Rattle.c_tree.specs.Erased.{statement_of, statements_of};
 ghost use Rattle.lower.specs.Walks.{AddsIf};
-ghost use Rattle.lower_loops.specs.Starts.{starts_at};
+ghost use Rattle.lower.specs.StartedBlocks.{starts_at};
 ghost use Rattle.lower_lines.specs.Statements.{run_of, runs_of, sequence_blocks, sequence_lines};
-ghost use Rattle.lower_pieces.specs.Sites.{context_of};
-ghost use Rattle.lower_rows.specs.Views.{after_of, exits_of};
+ghost use Rattle.lower_builder.specs.Sites.{context_of};
+ghost use Rattle.lower_expressions.specs.Views.{after_of, exits_of};
 
+use crate::items::item;
 use crate::labels::start_labelled;
+use crate::parts::{close_for, evaluated, go, is_nothing, open_for, open_if, open_while, return_value, start_second};
+use crate::started_blocks::next_after;
 use crate::switches::{open_body, open_switch};
-use crate::{
-    close_for, evaluated, go, is_nothing, item, open_for, open_if, open_while, return_value,
-    start_second,
-};
+use crate::turns::{again, close_do, open_do};
 use c_tree::Statement;
 use flow_graph::Op;
-use lower_builder::{Lines, plus};
-use lower_loops::{again, close_do, next_after, open_do};
-use lower_pieces::Site;
-use lower_rows::{After, Ahead, Exits, go_onward, start_exit};
+use lower_builder::{Lines, Site, plus};
+use lower_expressions::{After, Ahead, Exits, go_onward, start_exit};
 use pcc_base::NoMemory;
 
 /// A statement. Each begins with its mark.

@@ -1,2 +1,4 @@
 pub mod Building
 pub mod Rows
+pub mod Joined
+pub mod Found

@@ -1,3 +1,9 @@
 pub mod Built
 pub mod Graphs
 pub mod Lists
+pub mod Views
+pub mod Computed
+pub mod Spots
+pub mod Sites
+pub mod MoveViews
+pub mod Arguments

@@ -8,7 +8,7 @@ ghost use Rattle.lower_lines.specs.Shown.{local_widths, type_widths};
 ghost use Rattle.lower_lines.specs.Variables.{level_widths, levels_widths, variable_widths};
 
 use crate::heights::statements_height;
-use crate::plus;
+use crate::lines::plus;
 use c_tree::{Function, IntegerType, Local, LocalArray, ValueType};
 use pcc_base::{NoMemory, Width};
 use std::alloc::Global;

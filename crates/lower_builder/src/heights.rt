@@ -6,7 +6,7 @@ ghost use Rattle.c_tree.specs.Erased.{statement_of, statements_of};
 ghost use Rattle.c_tree.specs.Sizes as sizes;
 ghost use Rattle.lower_builder.specs.Lists.{arguments_list};
 
-use crate::plus;
+use crate::lines::plus;
 use c_tree::{Expression, First, Initialiser, Item, Place, Statement};
 use pcc_base::NoMemory;
 

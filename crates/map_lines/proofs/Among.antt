@@ -6,8 +6,8 @@ use Rattle.std.specs.List.{All, cons_option}
 use Rattle.std.proofs.lemmas.List.Elements.{All-head, All-tail}
 use Rattle.std.proofs.lemmas.Option.{none-some, same_Some}
 use Rattle.flow_graph.specs.Graphs.{IsIn}
-use Rattle.pcc_listing.specs.Maps.{MapFunction, MapPoint, points_of}
-use Rattle.pcc_listing.specs.Marks.{MarkAt, mark_at, marks_from, points_from}
+use Rattle.map_text.specs.Maps.{MapFunction, MapPoint, points_of}
+use Rattle.map_text.specs.Marks.{MarkAt, mark_at, marks_from, points_from}
 
 -- ---- lists
 

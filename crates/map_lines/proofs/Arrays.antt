@@ -21,14 +21,14 @@ use Rattle.lower_lines.specs.Lowering.{array_of}
 use Rattle.ia32_insn.proofs.Objects.{length-object_addresses}
 use Rattle.ia32_rows.specs.Placements.{Code, objects_of as image_objects, placement_of}
 use Rattle.ia32_rows.specs.Shows.{IsFrameArrayAt, Shows}
-use Rattle.ia32_programs.specs.Supports.{IsSupported, size_of}
-use Rattle.ia32_programs.specs.KeepsLaws.{data_end}
-use Rattle.ia32_programs.proofs.Objects.{object-in, objects-apart}
-use Rattle.ia32_programs.proofs.Regions.{IsArrayOf, array-above}
-use Rattle.ia32_programs.proofs.Zones.{activation-at, calls-above, frame_size}
-use Rattle.pcc_listing.specs.Maps.{Map, MapArray, MapObject}
-use Rattle.pcc_listing.specs.Marks.{Frame, array_in, array_named, arrays_below, arrays_of, in_frame, named_in_frames}
-use Rattle.pcc_listing.specs.Marks.{objects_of, place_of, static_or}
+use Rattle.ia32_laws.specs.Supports.{IsSupported, size_of}
+use Rattle.ia32_laws.specs.KeepsLaws.{data_end}
+use Rattle.ia32_laws.proofs.Objects.{object-in, objects-apart}
+use Rattle.ia32_laws.proofs.Regions.{IsArrayOf, array-above}
+use Rattle.ia32_laws.proofs.Zones.{activation-at, calls-above, frame_size}
+use Rattle.map_text.specs.Maps.{Map, MapArray, MapObject}
+use Rattle.map_text.specs.Marks.{Frame, array_in, array_named, arrays_below, arrays_of, in_frame, named_in_frames}
+use Rattle.map_text.specs.Marks.{objects_of, place_of, static_or}
 use Rattle.map_lines.specs.Belongs.{arrays_at, objects_at}
 use Rattle.map_lines.specs.VisitsLaws.{ArraysFound, HasMap, frames_at}
 use Rattle.map_lines.proofs.Found.{has-function, numbered}

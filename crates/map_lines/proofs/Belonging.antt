@@ -19,10 +19,10 @@ use Rattle.lower_lines.specs.Lowering.{first_statement}
 use Rattle.lower_lines.specs.Shown.{declared_before, local_widths}
 use Rattle.ia32_rows.specs.Paths.{IsAt}
 use Rattle.ia32_rows.specs.Placements.{Code, Placement, in_slots, placement_of, point_address}
-use Rattle.ia32_programs.specs.StandingLaws.{MarksAreNops}
-use Rattle.ia32_regs.specs.Places.{InSlot}
-use Rattle.pcc_listing.specs.Maps.{MapFunction, MapPoint, Standing, points_of}
-use Rattle.pcc_listing.specs.Marks.{MarkAt, marks_from, marks_of}
+use Rattle.ia32_laws.specs.StandingLaws.{MarksAreNops}
+use Rattle.ia32_insn.specs.Places.{InSlot}
+use Rattle.map_text.specs.Maps.{MapFunction, MapPoint, Standing, points_of}
+use Rattle.map_text.specs.Marks.{MarkAt, marks_from, marks_of}
 use Rattle.map_lines.specs.Belongs.{IsCallOf, IsFunctionOf, IsMapOf, IsMarkOf, IsPointOf, arrays_at}
 use Rattle.map_lines.specs.ProgramMap.{Homes, all_points, frame_bytes, function_over, functions_over, points_over}
 use Rattle.map_lines.specs.ProgramMap.{standings_from, variables_before}

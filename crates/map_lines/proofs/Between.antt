@@ -22,11 +22,11 @@ use Rattle.ia32_rows.specs.Shows.{IsInside, ReturnsTo}
 use Rattle.ia32_rows.specs.Rows.{behind_call, selected}
 use Rattle.ia32_rows.proofs.ItemKinds.{item-room, later, point-address}
 use Rattle.ia32_rows.proofs.Laid.{point-among}
-use Rattle.ia32_programs.specs.Supports.{site_of}
-use Rattle.ia32_programs.proofs.Memory.{address-at}
-use Rattle.ia32_programs.specs.StandingLaws.{IsSelected, place_behind}
-use Rattle.ia32_programs.proofs.Apart.{ordered}
-use Rattle.ia32_programs.proofs.Returns.{calls-return}
+use Rattle.ia32_laws.specs.Supports.{site_of}
+use Rattle.ia32_laws.proofs.Memory.{address-at}
+use Rattle.ia32_laws.specs.StandingLaws.{IsSelected, place_behind}
+use Rattle.ia32_laws.proofs.Apart.{ordered}
+use Rattle.ia32_laws.proofs.Returns.{calls-return}
 use Rattle.map_lines.specs.VisitsLaws.{NoneBetween}
 
 -- ---- among items

@@ -10,9 +10,9 @@ use Rattle.flow_graph.specs.Graphs.{Flow, IsPlaced, empty_flow}
 use Rattle.flow_graph.specs.States.{flow_at}
 use Rattle.lower_lines.specs.Lowering.{first_statement}
 use Rattle.ia32_rows.specs.Placements.{Code, placement_of, point_address}
-use Rattle.ia32_programs.proofs.Apart.{points-apart}
-use Rattle.pcc_listing.specs.Maps.{Map, MapFunction, MapPoint, points_of}
-use Rattle.pcc_listing.specs.Marks.{function_below, points_in}
+use Rattle.ia32_laws.proofs.Apart.{points-apart}
+use Rattle.map_text.specs.Maps.{Map, MapFunction, MapPoint, points_of}
+use Rattle.map_text.specs.Marks.{function_below, points_in}
 use Rattle.map_lines.specs.Belongs.{IsFunctionOf, IsPointOf}
 use Rattle.map_lines.specs.VisitsLaws.{FunctionsFound, HasMap}
 use Rattle.map_lines.proofs.Among.{IsAmong, IsPointAt, all-among, in-map, point-from, point-to}

@@ -2,8 +2,8 @@
 use Rattle.std.proofs.Common.{◌≡◌, ℕ, suc, ◌+◌, List, [], ◌∷◌, length, map, Option, Some, Ok, refl, sym, ap, subst, ◌∙◌}
 use Rattle.std.proofs.lemmas.List.{length-map}
 use Rattle.c_tree.specs.Program.{Program}
-use Rattle.ia32_regs.specs.Registers.{register}
-use Rattle.ia32_regs.specs.declared.names.Reg32.TheVariants.{Ebp}
+use Rattle.ia32_insn.specs.Registers.{register}
+use Rattle.ia32_insn.specs.declared.register_names.Reg32.TheVariants.{Ebp}
 use Rattle.ia32_insn.specs.State as machine
 use Rattle.ia32_insn.specs.Meaning.{load, word_of}
 use Rattle.ia32_insn.specs.Items.{data_start, stack_end}
@@ -12,9 +12,9 @@ use Rattle.flow_graph.specs.States.{Activation, Waiting, active_of}
 use Rattle.flow_graph.specs.WellFormed.{AreActivations}
 use Rattle.ia32_rows.specs.Placements.{Code, objects_of}
 use Rattle.ia32_rows.specs.Shows.{WaitFrom}
-use Rattle.ia32_programs.proofs.Zones.{bounds}
-use Rattle.pcc_listing.specs.Maps.{Map}
-use Rattle.pcc_listing.specs.Marks.{Frame, caller_of, depth_of, frames_from, word_at}
+use Rattle.ia32_laws.proofs.Zones.{bounds}
+use Rattle.map_text.specs.Maps.{Map}
+use Rattle.map_text.specs.Marks.{Frame, caller_of, depth_of, frames_from, word_at}
 use Rattle.map_lines.specs.VisitsLaws.{FramesFound, HasMap, frames_at}
 use Rattle.map_lines.proofs.Found.{functions-found}
 use Rattle.map_lines.proofs.Memory.{AreReadable, depth-read, load-number, sound-readable}

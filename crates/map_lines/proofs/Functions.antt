@@ -6,7 +6,7 @@ use Rattle.std.specs.List.{AllByRecursion}
 use Rattle.std.proofs.lemmas.Option.{none-some, same_Some, slice_get_within}
 use Rattle.c_tree.specs.Program.{Function}
 use Rattle.flow_graph.specs.Graphs.{Flow, IsIn, IsPlaced}
-use Rattle.pcc_listing.specs.Maps.{Map, MapFunction, MapObject, MapPoint}
+use Rattle.map_text.specs.Maps.{Map, MapFunction, MapObject, MapPoint}
 use Rattle.map_lines.specs.Belongs.{arrays_at, objects_at}
 use Rattle.map_lines.specs.ProgramMap.{Homes, all_points, frame_bytes, function_over, functions_over, points_over}
 use Rattle.map_lines.specs.ProgramMap.{program_map, variables_over}

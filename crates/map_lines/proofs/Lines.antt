@@ -21,14 +21,14 @@ use Rattle.flow_graph.specs.declared.op.Op.{Op}
 use Rattle.flow_graph.specs.declared.op.Op.TheVariants as op
 use Rattle.flow_graph.specs.Graphs.{Flow}
 use Rattle.ia32_emit.specs.Locations.{distance, slots_of}
-use Rattle.ia32_regs.specs.Places.{InSlot}
+use Rattle.ia32_insn.specs.Places.{InSlot}
 use Rattle.lower_lines.specs.Shown.{local_widths, type_widths}
-use Rattle.pcc_listing.specs.Maps.{MapFunction, MapPoint, MapVariable, Standing}
-use Rattle.pcc_listing.specs.Lines.{ArrayLine, FunctionLine, Line, ObjectLine, array_lines, function_lines, numbered}
-use Rattle.pcc_listing.specs.Lines.{object_lines, point_lines, variable_lines}
-use Rattle.pcc_listing.specs.Maps.{points_of}
-use Rattle.pcc_listing.specs.Views.{standing_of}
-use Rattle.pcc_listing.specs.declared.lines.Standing as stood
+use Rattle.map_text.specs.Maps.{MapFunction, MapPoint, MapVariable, Standing}
+use Rattle.map_text.specs.Lines.{ArrayLine, FunctionLine, Line, ObjectLine, array_lines, function_lines, numbered}
+use Rattle.map_text.specs.Lines.{object_lines, point_lines, variable_lines}
+use Rattle.map_text.specs.Maps.{points_of}
+use Rattle.map_text.specs.Views.{standing_of}
+use Rattle.map_text.specs.declared.lines.Standing as stood
 use Rattle.map_lines.specs.Belongs.{arrays_at, local_variables, objects_at, temporary, typed_variables}
 use Rattle.map_lines.specs.ProgramMap.{Homes, function_over, op_points, points_over, standings_from, variables_before}
 use Rattle.map_lines.proofs.OwnedVariables.{locals-widths, width_of}

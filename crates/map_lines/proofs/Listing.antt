@@ -17,10 +17,10 @@ use Rattle.flow_graph.specs.Graphs.{Flow}
 use Rattle.lower_lines.specs.Lowering.{first_statement}
 use Rattle.lower_lines.specs.Shown.{IsPartOf, locals_at, numbers_of}
 use Rattle.ia32_rows.specs.Placements.{Placement, placement_of, point_address}
-use Rattle.pcc_listing.specs.Maps.{Map, MapFunction, MapPoint, MapVariable, Standing, points_of}
+use Rattle.map_text.specs.Maps.{Map, MapFunction, MapPoint, MapVariable, Standing, points_of}
 use Rattle.flow_graph.specs.Kinds.{marked}
-use Rattle.pcc_listing.specs.Marks.{MarkAt, listed_by, locals_before, mark_at, marks_from, marks_of, name_in}
-use Rattle.pcc_listing.specs.Marks.{part_named, part_of, variables_in, variables_of}
+use Rattle.map_text.specs.Marks.{MarkAt, listed_by, locals_before, mark_at, marks_from, marks_of, name_in}
+use Rattle.map_text.specs.Marks.{part_named, part_of, variables_in, variables_of}
 use Rattle.map_lines.specs.Belongs.{IsFunctionOf, IsPointOf, local_variables, temporary}
 use Rattle.map_lines.specs.Laws.{MapListsLocals}
 use Rattle.map_lines.proofs.Owners.{owner-locals}

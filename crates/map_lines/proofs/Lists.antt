@@ -3,7 +3,7 @@ use Rattle.std.proofs.Common.{◌≡◌, ℕ, zero, suc, ◌+◌, List, [], ◌�
 use Rattle.std.proofs.Common.{◌∙◌, arith, append_assoc}
 use Rattle.std.specs.Prelude.{slice_get}
 use Rattle.std.proofs.lemmas.Option.{none-some, same_Some}
-use Rattle.pcc_listing.specs.Lines.{Line, numbered}
+use Rattle.map_text.specs.Lines.{Line, numbered}
 
 -- the lines of two lists, one behind the other
 pub numbered-both : {X : Type 0} (line : ℕ → X → List Line) (k : ℕ) (xs ys : List X)

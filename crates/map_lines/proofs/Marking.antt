@@ -13,8 +13,8 @@ use Rattle.flow_graph.specs.Graphs.{Flow, IsDistinct, IsIn}
 use Rattle.flow_graph.proofs.Points.{every-in, every-from}
 use Rattle.lower_lines.specs.Lowering as lowering
 use Rattle.lower_lines.specs.Lowering.{marks_in}
-use Rattle.pcc_listing.specs.Maps.{MapFunction, MapPoint, points_of}
-use Rattle.pcc_listing.specs.Marks.{MarkAt, mark_at, marks_from}
+use Rattle.map_text.specs.Maps.{MapFunction, MapPoint, points_of}
+use Rattle.map_text.specs.Marks.{MarkAt, mark_at, marks_from}
 use Rattle.map_lines.specs.ProgramMap.{Homes, all_points, function_over, functions_over, op_points, points_over}
 use Rattle.map_lines.specs.ProgramMap.{standings_from, variables_before}
 use Rattle.map_lines.proofs.Blocks.{distinct-both, distinct-parts, in-back, in-either, in-front}

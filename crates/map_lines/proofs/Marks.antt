@@ -16,11 +16,11 @@ use Rattle.flow_graph.specs.States.{flow_at, op_at, op_of}
 use Rattle.lower_lines.specs.Lowering.{first_statement}
 use Rattle.ia32_rows.specs.Placements.{Code, placement_of, point_address}
 use Rattle.ia32_rows.specs.Shows.{Shows}
-use Rattle.ia32_programs.proofs.Apart.{points-apart}
-use Rattle.pcc_listing.specs.Maps.{Map, MapFunction, MapPoint, points_of}
+use Rattle.ia32_laws.proofs.Apart.{points-apart}
+use Rattle.map_text.specs.Maps.{Map, MapFunction, MapPoint, points_of}
 use Rattle.flow_graph.specs.Kinds.{marked}
-use Rattle.pcc_listing.specs.Marks.{MarkAt, listed_by, mark_at, marks_of, part_of, variables_in, visit_at}
-use Rattle.pcc_listing.specs.Marks.{visits_by}
+use Rattle.map_text.specs.Marks.{MarkAt, listed_by, mark_at, marks_of, part_of, variables_in, visit_at}
+use Rattle.map_text.specs.Marks.{visits_by}
 use Rattle.map_lines.specs.Belongs.{IsMarkOf, IsPointOf}
 use Rattle.map_lines.specs.VisitsLaws.{HasMap}
 use Rattle.map_lines.proofs.Among.{IsAmong, IsPointAt, all-among, in-map, mark-from, mark-to}

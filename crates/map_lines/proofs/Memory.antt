@@ -13,7 +13,7 @@ use Rattle.ia32_insn.specs.State.{State, Area, bytes_at, has_bytes}
 use Rattle.ia32_insn.specs.Meaning.{and_then, load, or_end}
 use Rattle.ia32_insn.specs.Items.{text_area, text_start}
 use Rattle.ia32_rows.specs.Sites.{IsSound, data_from}
-use Rattle.pcc_listing.specs.Marks.{depth_of, number_at}
+use Rattle.map_text.specs.Marks.{depth_of, number_at}
 
 -- every area may be read
 abbrev pub AreReadable : List Area → Type 0

@@ -18,8 +18,8 @@ use Rattle.c_tree.specs.Program.{Function, Local}
 use Rattle.c_tree.specs.WellTyped.{IsScalar}
 use Rattle.flow_graph.specs.Graphs.{Flow}
 use Rattle.lower_lines.specs.Shown.{HasLocal, IsInteger, IsPartOf, IsPointer, local_widths, type_widths}
-use Rattle.pcc_listing.specs.Maps.{MapVariable, Named, NamesScalar, NamesArray, NamesIndex, Temporary}
-use Rattle.pcc_listing.specs.Marks.{begins_local, locals_before, name_in, part_named}
+use Rattle.map_text.specs.Maps.{MapVariable, Named, NamesScalar, NamesArray, NamesIndex, Temporary}
+use Rattle.map_text.specs.Marks.{begins_local, locals_before, name_in, part_named}
 use Rattle.map_lines.specs.Belongs.{local_variables, temporary, typed_variables}
 use Rattle.map_lines.specs.ProgramMap.{variables_over}
 

@@ -36,13 +36,13 @@ use Rattle.ia32_insn.proofs.Objects.{round-above}
 use Rattle.ia32_rows.specs.Paths.{IsAt}
 use Rattle.ia32_rows.specs.Placements.{Code, Placement, objects_of, point_address}
 use Rattle.ia32_rows.specs.Rows.{IsSlot}
-use Rattle.ia32_programs.specs.Supports.{AreArraysIn, IsArrayIn, size_of}
-use Rattle.ia32_programs.proofs.Objects.{object-in}
-use Rattle.ia32_programs.specs.StandingLaws.{PointsStand}
-use Rattle.pcc_listing.specs.Maps.{AreElements, IsMap, IsMapArray, IsMapFunction, IsMapObject, IsMapOp, IsMapPoint}
-use Rattle.pcc_listing.specs.Maps.{IsMapVariable, IsStanding, Map, MapArray, MapFunction, MapObject, MapPoint}
-use Rattle.pcc_listing.specs.Maps.{MapVariable}
-use Rattle.pcc_listing.specs.Maps.{flow_of, points_of}
+use Rattle.ia32_laws.specs.Supports.{AreArraysIn, IsArrayIn, size_of}
+use Rattle.ia32_laws.proofs.Objects.{object-in}
+use Rattle.ia32_laws.specs.StandingLaws.{PointsStand}
+use Rattle.map_text.specs.Maps.{AreElements, IsMap, IsMapArray, IsMapFunction, IsMapObject, IsMapOp, IsMapPoint}
+use Rattle.map_text.specs.Maps.{IsMapVariable, IsStanding, Map, MapArray, MapFunction, MapObject, MapPoint}
+use Rattle.map_text.specs.Maps.{MapVariable}
+use Rattle.map_text.specs.Maps.{flow_of, points_of}
 use Rattle.map_lines.specs.Belongs.{arrays_at, local_variables, objects_at, temporary, typed_variables}
 use Rattle.map_lines.specs.ProgramMap.{Homes, all_points, frame_bytes, function_over, functions_over, points_over}
 use Rattle.map_lines.specs.ProgramMap.{standings_from, variables_before, variables_over}

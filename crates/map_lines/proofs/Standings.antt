@@ -10,8 +10,8 @@ use Rattle.pcc_base.specs.declared.run.Width.TheVariants.{One, Two}
 use Rattle.flow_graph.specs.Lives.{IsAscending}
 use Rattle.ia32_rows.specs.Placements.{Placement}
 use Rattle.ia32_rows.specs.Rows.{AllApart, AreApart, IsSlot}
-use Rattle.ia32_regs.specs.Places.{Place, InSlot}
-use Rattle.pcc_listing.specs.Maps.{IsStanding, MapVariable, Standing, TakesWidth}
+use Rattle.ia32_insn.specs.Places.{Place, InSlot}
+use Rattle.map_text.specs.Maps.{IsStanding, MapVariable, Standing, TakesWidth}
 use Rattle.map_lines.specs.Belongs.{AreDistinct}
 use Rattle.map_lines.specs.ProgramMap.{standings_from}
 

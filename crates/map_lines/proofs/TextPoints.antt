@@ -7,7 +7,7 @@ use Rattle.flow_graph.specs.declared.op.Op.{Op}
 use Rattle.flow_graph.specs.declared.op.Op.TheVariants as op
 use Rattle.flow_graph.specs.Graphs.{IsDistinct, IsIn}
 use Rattle.c_tree.specs.Program.{Function}
-use Rattle.pcc_listing.specs.Maps.{MapPoint}
+use Rattle.map_text.specs.Maps.{MapPoint}
 use Rattle.map_lines.specs.ProgramMap.{op_points, point_of, points_over, standings_from, variables_before}
 
 -- the point of a mark, and that of a call

@@ -11,9 +11,9 @@ use Rattle.byteorder.specs.Endian.{twos_complement}
 use Rattle.pcc_base.specs.declared.run.Width.{Width}
 use Rattle.pcc_base.specs.declared.run.Width.TheVariants.{One, Two}
 use Rattle.pcc_base.specs.Outcome.{ArrayName, Null, IsKnown, Value, Number, Array}
-use Rattle.ia32_regs.specs.Registers.{register}
-use Rattle.ia32_regs.specs.declared.names.Reg32.TheVariants.{Ebp}
-use Rattle.ia32_regs.specs.Places.{Place, InWord, InByte, InSlot}
+use Rattle.ia32_insn.specs.Registers.{register}
+use Rattle.ia32_insn.specs.declared.register_names.Reg32.TheVariants.{Ebp}
+use Rattle.ia32_insn.specs.Places.{Place, InWord, InByte, InSlot}
 use Rattle.ia32_asm.proofs.Words.{twos_complement-word}
 use Rattle.ia32_insn.specs.State as machine
 use Rattle.ia32_insn.specs.Meaning.{byte_of, word_of}
@@ -23,10 +23,10 @@ use Rattle.flow_graph.specs.States.{Activation, active_of, array_from, number_of
 use Rattle.ia32_rows.specs.Placements.{Code}
 use Rattle.ia32_rows.specs.Shows.{IsArrayAt, IsByte, IsWord, StandsIn}
 use Rattle.ia32_rows.specs.Contains.{IsPlaceIn}
-use Rattle.ia32_programs.specs.Supports.{HoldsWidth}
-use Rattle.pcc_listing.specs.Maps.{Map}
-use Rattle.pcc_listing.specs.Marks.{Frame, array_named, array_value, number_at, number_in, signed_value, slot_address}
-use Rattle.pcc_listing.specs.Marks.{value_named}
+use Rattle.ia32_laws.specs.Supports.{HoldsWidth}
+use Rattle.map_text.specs.Maps.{Map}
+use Rattle.map_text.specs.Marks.{Frame, array_named, array_value, number_at, number_in, signed_value, slot_address}
+use Rattle.map_text.specs.Marks.{value_named}
 use Rattle.map_lines.proofs.Memory.{AreReadable, load-number}
 use Rattle.map_lines.proofs.VisitsVariables.{HasRoleWidth, OfArray, OfIndex, OfNumber, Role, role_name, role_part}
 

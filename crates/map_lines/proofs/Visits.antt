@@ -10,8 +10,8 @@ use Rattle.pcc_base.specs.declared.run.Width.{Width}
 use Rattle.pcc_base.specs.Outcome.{AreKnown, IsKnown, Part, Value, Visit}
 use Rattle.c_tree.specs.Program.{Local, Program}
 use Rattle.c_tree.specs.WellTyped.{IsScalar, IsTypedFunction}
-use Rattle.ia32_regs.specs.declared.names.Reg32.TheVariants.{Esp, Ebp}
-use Rattle.ia32_regs.specs.Places.{Place}
+use Rattle.ia32_insn.specs.declared.register_names.Reg32.TheVariants.{Esp, Ebp}
+use Rattle.ia32_insn.specs.Places.{Place}
 use Rattle.ia32_insn.specs.State as machine
 use Rattle.ia32_insn.specs.Items.{data_start, stack_end}
 use Rattle.ia32_insn.specs.Meaning.{word_of}
@@ -26,11 +26,11 @@ use Rattle.lower_lines.specs.Shown.{locals_at, variable_part, variables_shown}
 use Rattle.ia32_rows.specs.Paths.{IsAt, IsClear}
 use Rattle.ia32_rows.specs.Placements.{Code, objects_of, placement_of}
 use Rattle.ia32_rows.specs.Shows.{Shows, StandsIn}
-use Rattle.ia32_programs.specs.Supports.{HoldsWidth}
-use Rattle.ia32_programs.proofs.Zones.{bounds}
-use Rattle.pcc_listing.specs.Maps.{Map, MapVariable, Standing, Temporary}
-use Rattle.pcc_listing.specs.Marks.{Frame, MarkAt, frames_of, listed, marks_of, part_of, value_named, value_of}
-use Rattle.pcc_listing.specs.Marks.{values_of, variables_in, variables_of, visits_of}
+use Rattle.ia32_laws.specs.Supports.{HoldsWidth}
+use Rattle.ia32_laws.proofs.Zones.{bounds}
+use Rattle.map_text.specs.Maps.{Map, MapVariable, Standing, Temporary}
+use Rattle.map_text.specs.Marks.{Frame, MarkAt, frames_of, listed, marks_of, part_of, value_named, value_of}
+use Rattle.map_text.specs.Marks.{values_of, variables_in, variables_of, visits_of}
 use Rattle.map_lines.proofs.Owners.{owner-locals}
 use Rattle.map_lines.specs.VisitsLaws.{HasMap, MapShowsVisits, frames_at}
 use Rattle.map_lines.proofs.Among.{IsAmong, all-among, among-map, to-filter}

@@ -11,10 +11,10 @@ use Rattle.c_tree.specs.declared.program.StaticObject.{StaticObject}
 use Rattle.c_tree.specs.Erased.{function_of, object_of}
 use Rattle.c_tree.specs.Program.{Function, Program}
 use Rattle.flow_graph.specs.Graphs.{Flow}
-use Rattle.ia32_frames.specs.declared.frame.Frame.{Frame}
+use Rattle.ia32_select.specs.declared.frame.Frame.{Frame}
 use Rattle.lower_lines.specs.Lowering.{first_statement}
 use Rattle.lower_lines.specs.Shown.{numbers_of}
-use Rattle.pcc_listing.specs.Lines.{Line, function_lines, numbered}
+use Rattle.map_text.specs.Lines.{Line, function_lines, numbered}
 use Rattle.map_lines.specs.ProgramMap.{Homes, function_over, functions_over}
 use Rattle.map_lines.specs.Shown.{CanShow, CanShowAll, address_in, homes_of}
 use Rattle.map_lines.proofs.Lists.{drop-there, one-put}

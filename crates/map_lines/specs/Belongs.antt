@@ -17,10 +17,10 @@ use Rattle.lower_lines.specs.Lowering.{first_statement}
 use Rattle.lower_lines.specs.Shown.{declared_before, local_widths, numbers_of}
 use Rattle.ia32_rows.specs.Paths.{IsAt}
 use Rattle.ia32_rows.specs.Placements.{Code, Placement, placement_of, point_address}
-use Rattle.ia32_regs.specs.Places.{Place}
-use Rattle.pcc_listing.specs.Maps.{Map, MapObject, MapFunction, MapArray, MapVariable, MapPoint, Standing, NamesScalar}
-use Rattle.pcc_listing.specs.Maps.{NamesArray, NamesIndex, Temporary, points_of}
-use Rattle.pcc_listing.specs.Marks.{marks_of}
+use Rattle.ia32_insn.specs.Places.{Place}
+use Rattle.map_text.specs.Maps.{Map, MapObject, MapFunction, MapArray, MapVariable, MapPoint, Standing, NamesScalar}
+use Rattle.map_text.specs.Maps.{NamesArray, NamesIndex, Temporary, points_of}
+use Rattle.map_text.specs.Marks.{marks_of}
 
 -- ---- objects, arrays and variables
 

@@ -9,10 +9,10 @@ use Rattle.flow_graph.specs.Graphs.{Flow, IsPlaced}
 use Rattle.lower_lines.specs.Lowering.{HasObjects, HaveMarks, HaveShapes, MarksOnce}
 use Rattle.lower_lines.specs.Shown.{ListsLocals}
 use Rattle.ia32_rows.specs.Placements.{Code, in_slots, placement_of, point_address}
-use Rattle.ia32_programs.specs.Supports.{AreSlots}
-use Rattle.ia32_programs.specs.StandingLaws.{IsSelected}
-use Rattle.pcc_listing.specs.Maps.{Map, IsMap}
-use Rattle.pcc_listing.specs.Marks.{listed}
+use Rattle.ia32_laws.specs.Supports.{AreSlots}
+use Rattle.ia32_laws.specs.StandingLaws.{IsSelected}
+use Rattle.map_text.specs.Maps.{Map, IsMap}
+use Rattle.map_text.specs.Marks.{listed}
 use Rattle.map_lines.specs.Belongs.{IsMapOf}
 use Rattle.map_lines.specs.ProgramMap.{Homes, frame_bytes, program_map}
 

@@ -8,8 +8,8 @@ use Rattle.flow_graph.specs.declared.op.Op.TheVariants.{Call, Mark}
 use Rattle.flow_graph.specs.Graphs.{Flow}
 use Rattle.flow_graph.specs.Sizes.{array_bytes}
 use Rattle.lower_lines.specs.Shown.{declared_before, local_widths}
-use Rattle.ia32_regs.specs.Places.{InSlot}
-use Rattle.pcc_listing.specs.Maps.{Map, MapFunction, MapPoint, MapVariable, Standing}
+use Rattle.ia32_insn.specs.Places.{InSlot}
+use Rattle.map_text.specs.Maps.{Map, MapFunction, MapPoint, MapVariable, Standing}
 use Rattle.map_lines.specs.Belongs.{arrays_at, local_variables, objects_at, temporary}
 
 -- how far below EBP element 0 of each frame array of a function is, and the slot of each variable, by their numbers

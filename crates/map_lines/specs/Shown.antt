@@ -11,10 +11,10 @@ use Rattle.flow_graph.specs.declared.op.Op.{Op}
 use Rattle.flow_graph.specs.declared.op.Op.TheVariants.{Call, Mark}
 use Rattle.flow_graph.specs.Graphs.{Flow, IsPlaced}
 use Rattle.ia32_emit.specs.Locations.{distance, slots_of}
-use Rattle.ia32_frames.specs.declared.frame.Frame.{Frame}
+use Rattle.ia32_select.specs.declared.frame.Frame.{Frame}
 use Rattle.lower_lines.specs.Lowering.{HasShape, MarksStatements, first_statement}
 use Rattle.lower_lines.specs.Shown.{local_widths, numbers_of}
-use Rattle.pcc_listing.specs.Maps.{MapPoint}
+use Rattle.map_text.specs.Maps.{MapPoint}
 use Rattle.map_lines.specs.ProgramMap.{Homes, frame_bytes, point_of, standings_from}
 
 -- ---- declarations

@@ -14,9 +14,9 @@ use Rattle.lower_lines.specs.Shown.{variables_shown}
 use Rattle.ia32_rows.specs.Follows.{ShowsVisits}
 use Rattle.ia32_rows.specs.Placements.{Code, point_address}
 use Rattle.ia32_rows.specs.Shows.{IsArrayAt, ReturnsTo, Shows}
-use Rattle.ia32_programs.specs.StandingLaws.{IsSelected}
-use Rattle.pcc_listing.specs.Maps.{Map}
-use Rattle.pcc_listing.specs.Marks.{Frame, MarkAt, array_named, caller_of, frames_of, listed, visits_of}
+use Rattle.ia32_laws.specs.StandingLaws.{IsSelected}
+use Rattle.map_text.specs.Maps.{Map}
+use Rattle.map_text.specs.Marks.{Frame, MarkAt, array_named, caller_of, frames_of, listed, visits_of}
 use Rattle.map_lines.specs.Belongs.{IsMapOf}
 
 -- A map of a typed program and of the code of its graphs, over placements that support them.

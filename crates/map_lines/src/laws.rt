@@ -2,7 +2,7 @@
 
 ghost use Rattle.map_lines.specs.Laws.{MapBelongs, MapBySameAddresses, MapKeepsRules, MapListsLocals};
 
-use ia32_programs::{points_are_apart, points_stand};
+use ia32_laws::{points_are_apart, points_stand};
 
 /// The map over slots is that of the program: it has its objects, functions, frame arrays and variables, marks each
 /// statement once, at its address, and lists there exactly the locals that are declared before it; and it has each call

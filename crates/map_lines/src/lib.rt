@@ -1,7 +1,7 @@
 //! The lines of the map of a program whose variables stand in slots.
 //!
 //! In: a typed program and the graphs of its functions, with the frame of each, and the addresses of points and static
-//! objects. Out: the lines of the defined map (`specs/ProgramMap.antt`), which `pcc_listing` prints. The only refusal
+//! objects. Out: the lines of the defined map (`specs/ProgramMap.antt`), which `map_text` prints. The only refusal
 //! is want of memory.
 //!
 //! By `laws` this map is that of the program and of its code (`specs/Belongs.antt`), keeps the rules of a map, and

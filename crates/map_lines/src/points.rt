@@ -7,16 +7,16 @@ ghost use Rattle.ia32_emit.specs.Locations.{slots_of};
 ghost use Rattle.lower_lines.specs.Shown.{numbers_of};
 ghost use Rattle.map_lines.specs.Shown as shown;
 ghost use Rattle.map_lines.specs.Shown.{AreBelow, CanShow, points_at};
-ghost use Rattle.pcc_listing.specs.Lines.{point_lines};
-ghost use Rattle.pcc_listing.specs.Views.{line_of, standing_of};
+ghost use Rattle.map_text.specs.Lines.{point_lines};
+ghost use Rattle.map_text.specs.Views.{line_of, standing_of};
 ghost use Rattle.map_lines.specs.ProgramMap.{all_points, points_over, standings_from};
 
 use crate::declared::counts_before;
 use c_tree::Function;
 use flow_graph::{Graph, Op};
-use ia32_frames::Frame;
+use ia32_select::Frame;
+use map_text::{Line, Standing};
 use pcc_base::NoMemory;
-use pcc_listing::{Line, Standing};
 use std::alloc::Global;
 
 /// Where the first variables stand, by the offsets of their slots from EBP.

@@ -5,17 +5,17 @@ ghost use Rattle.std.specs.List.{AllByRecursion};
 ghost use Rattle.c_tree.specs.Erased.{function_of, program_of};
 ghost use Rattle.lower_lines.specs.Shown.{numbers_of};
 ghost use Rattle.map_lines.specs.Shown.{CanShow, CanShowAll, address_in, homes_of};
-ghost use Rattle.pcc_listing.specs.Lines.{function_lines, lines_of};
-ghost use Rattle.pcc_listing.specs.Views.{line_of};
+ghost use Rattle.map_text.specs.Lines.{function_lines, lines_of};
+ghost use Rattle.map_text.specs.Views.{line_of};
 ghost use Rattle.map_lines.specs.ProgramMap.{function_over, program_map};
 
 use crate::points::push_points;
 use crate::variables::{push_arrays, push_objects, push_variables};
 use c_tree::{Function, Program};
 use flow_graph::Graph;
-use ia32_frames::Frame;
+use ia32_select::Frame;
+use map_text::Line;
 use pcc_base::NoMemory;
-use pcc_listing::Line;
 use std::alloc::Global;
 
 /// Puts the lines of a function at the end, which has this number and whose first statement has that one, and answers

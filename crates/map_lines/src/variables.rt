@@ -7,17 +7,17 @@ ghost use Rattle.c_tree.specs.Sizes as sizes;
 ghost use Rattle.ia32_emit.specs.Locations.{slots_of};
 ghost use Rattle.lower_lines.specs.Shown.{local_widths};
 ghost use Rattle.map_lines.specs.Shown.{AreBelow};
-ghost use Rattle.pcc_listing.specs.Lines.{VariableLine, array_lines, numbered, object_lines, variable_lines};
-ghost use Rattle.pcc_listing.specs.Maps.{NamesArray, NamesIndex, NamesScalar};
-ghost use Rattle.pcc_listing.specs.Views.{line_of};
+ghost use Rattle.map_text.specs.Lines.{VariableLine, array_lines, numbered, object_lines, variable_lines};
+ghost use Rattle.map_text.specs.Maps.{NamesArray, NamesIndex, NamesScalar};
+ghost use Rattle.map_text.specs.Views.{line_of};
 ghost use Rattle.pcc_base.specs.declared.run.Width.TheVariants.{Two};
 ghost use Rattle.map_lines.specs.Belongs.{arrays_at, local_variables, objects_at, temporary};
 
 use crate::declared::variables_in;
 use c_tree::{IntegerType, Local, LocalArray, StaticObject, ValueType};
 use flow_graph::Graph;
+use map_text::{Line, Named};
 use pcc_base::{Name, NoMemory, Width};
-use pcc_listing::{Line, Named};
 use std::alloc::Global;
 
 /// How many bytes a value of a type has.

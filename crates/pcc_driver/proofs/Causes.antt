@@ -2,15 +2,15 @@
 use Rattle.std.proofs.Common.{◌≡◌, ℕ, Vec, Global, sym, ◌∙◌, inl, inr, refl, arith}
 use Rattle.std.specs.Prelude.{◌⊎◌}
 use Rattle.pcc_base.specs.Counts.{Rose}
-use Rattle.pcc_reports.specs.Programs.{ManyTokens, LargeArrays, LargeFrame}
-use Rattle.pcc_reports.specs.Causes.{HasCause}
-use Rattle.pcc_reports.specs.Ends.{Ends}
-use Rattle.pcc_reports.specs.Outside.{Outside, Work}
-use Rattle.pcc_reports.specs.Reports.{status_of}
-use Rattle.pcc_reports.specs.declared.report.Report.{Report}
-use Rattle.pcc_reports.specs.declared.report.Report.TheVariants as reports
-use Rattle.pcc_reports.proofs.Ends.{ended_status, shown_status}
-use Rattle.pcc_reports.specs.Sources.{HoldAll}
+use Rattle.pcc_driver.specs.Programs.{ManyTokens, LargeArrays, LargeFrame}
+use Rattle.pcc_driver.specs.Causes.{HasCause}
+use Rattle.pcc_driver.specs.Ends.{Ends}
+use Rattle.pcc_driver.specs.Outside.{Outside, Work}
+use Rattle.pcc_driver.specs.Reports.{status_of}
+use Rattle.pcc_driver.specs.declared.report.Report.{Report}
+use Rattle.pcc_driver.specs.declared.report.Report.TheVariants as reports
+use Rattle.pcc_driver.proofs.Ends.{ended_status, shown_status}
+use Rattle.pcc_driver.specs.Sources.{HoldAll}
 use Rattle.pcc_driver.specs.Answers.{CommandTold, NothingDone}
 use Rattle.pcc_words.specs.Asked as commands
 use Rattle.pcc_words.specs.Asked.{Command}

@@ -3,15 +3,15 @@ use Rattle.std.proofs.Common.{◌≡◌, ℕ, List, refl, inl, inr}
 use Rattle.pcc_outside.specs.Files.{StoreCounts}
 use Rattle.pcc_outside.specs.Streams.{SinkCounts}
 use Rattle.c_tree.specs.Program.{Program}
-use Rattle.c_eval.specs.declared.end.EvalEnd.{EvalEnd}
-use Rattle.c_eval.specs.declared.end.EvalEnd.TheVariants as evaluation
-use Rattle.c_eval_tasks.specs.Runs as evaluations
-use Rattle.pcc_reports.specs.Causes.{FilesCause, StreamsCause}
-use Rattle.pcc_reports.specs.Outside.{Files, SameStreams, Work}
-use Rattle.pcc_reports.specs.declared.report.Report.{Report}
-use Rattle.pcc_reports.specs.declared.report.Report.TheVariants as reports
-use Rattle.pcc_reports.specs.Programs.{HaveTypedProgram, HaveNoProgram}
-use Rattle.pcc_reports.specs.Sources.{HoldAll}
+use Rattle.c_eval_state.specs.declared.end.EvalEnd.{EvalEnd}
+use Rattle.c_eval_state.specs.declared.end.EvalEnd.TheVariants as evaluation
+use Rattle.c_eval.specs.Runs as evaluations
+use Rattle.pcc_driver.specs.Causes.{FilesCause, StreamsCause}
+use Rattle.pcc_driver.specs.Outside.{Files, SameStreams, Work}
+use Rattle.pcc_driver.specs.declared.report.Report.{Report}
+use Rattle.pcc_driver.specs.declared.report.Report.TheVariants as reports
+use Rattle.pcc_driver.specs.Programs.{HaveTypedProgram, HaveNoProgram}
+use Rattle.pcc_driver.specs.Sources.{HoldAll}
 use Rattle.pcc_driver.specs.Evaluations.{EvalTold, SourcesTold, report_of_evaluation}
 
 -- no file is asked for

@@ -10,18 +10,18 @@ use Rattle.ia32_insn.proofs.Runs.{run_once}
 use Rattle.ia32_machine.specs.First.{First}
 use Rattle.pcc_words.specs.Asked as commands
 use Rattle.pcc_words.specs.Asked.{Command}
-use Rattle.puzzle_texts.specs.Reading.{IsNoBoard}
-use Rattle.pcc_reports.specs.Causes.{HasCause}
-use Rattle.pcc_reports.specs.Ends.{Ends}
-use Rattle.pcc_reports.specs.Outside.{Files, Outside, Output, Work}
-use Rattle.pcc_reports.specs.Reports.{end_status, status_of}
-use Rattle.pcc_reports.specs.declared.report.Named.TheVariants.{Source, Map, Image, Board}
-use Rattle.pcc_reports.specs.declared.report.Report.{Report}
-use Rattle.pcc_reports.specs.declared.report.Report.TheVariants as reports
-use Rattle.pcc_reports.proofs.Ends.{ended_status}
-use Rattle.pcc_reports.specs.Sources.{Holds, IsTooLong}
-use Rattle.pcc_reports.proofs.Status.{refused_status, typed_status}
-use Rattle.pcc_driver.proofs.Status.{eval_status}
+use Rattle.puzzle_solver.specs.Reading.{IsNoBoard}
+use Rattle.pcc_driver.specs.Causes.{HasCause}
+use Rattle.pcc_driver.specs.Ends.{Ends}
+use Rattle.pcc_driver.specs.Outside.{Files, Outside, Output, Work}
+use Rattle.pcc_driver.specs.Reports.{end_status, status_of}
+use Rattle.pcc_driver.specs.declared.report.Named.TheVariants.{Source, Map, Image, Board}
+use Rattle.pcc_driver.specs.declared.report.Report.{Report}
+use Rattle.pcc_driver.specs.declared.report.Report.TheVariants as reports
+use Rattle.pcc_driver.proofs.Ends.{ended_status}
+use Rattle.pcc_driver.specs.Sources.{Holds, IsTooLong}
+use Rattle.pcc_driver.proofs.SourcesStatus.{refused_status, typed_status}
+use Rattle.pcc_driver.proofs.EvalStatus.{eval_status}
 use Rattle.pcc_driver.proofs.Causes.{own_status}
 use Rattle.pcc_driver.specs.Answers.{CommandTold, CompileTold, RunTold, SolveTold, RunGives, IsNoImage}
 use Rattle.pcc_driver.specs.Solutions.{IsSomeBoard}

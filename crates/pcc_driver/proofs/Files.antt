@@ -8,8 +8,8 @@ use Rattle.pcc_outside.specs.declared.sink.WriteRefusal.{WriteRefusal}
 use Rattle.pcc_outside.specs.declared.sink.WriteRefusal.TheVariants as put
 use Rattle.pcc_driver.specs.Answers.{OnlyFile, WritesTold, report_of_write}
 use Rattle.pcc_words.specs.Asked.{map_name}
-use Rattle.pcc_reports.specs.Outside.{Files, SameFiles}
-use Rattle.pcc_reports.specs.declared.report.Named.TheVariants.{Map}
+use Rattle.pcc_driver.specs.Outside.{Files, SameFiles}
+use Rattle.pcc_driver.specs.declared.report.Named.TheVariants.{Map}
 
 -- two names are the same or not
 same_or_not : (a b : List ℕ) (r : Bool) → bytes_eq a b ≡ r → (a ≡ b) ⊎ (a ≢ b)

@@ -1,11 +1,15 @@
+pub mod Ends
+pub mod SoFar
+pub mod SourcesStatus
+pub mod SourcesTold
 pub mod Causes
 pub mod Exact
 pub mod Files
 pub mod Ready
 pub mod Running
 pub mod Solving
-pub mod Told
+pub mod CommandTold
 pub mod Wanting
 pub mod Written
-pub mod Status
+pub mod EvalStatus
 pub mod EvalTold

@@ -2,8 +2,8 @@
 use Rattle.std.proofs.lemmas.List.Elements.{All-from_recursion, All-weaker}
 use Rattle.pcc_base.specs.Names.{IsName}
 use Rattle.c_tree.specs.Program.{Function, Local, Program}
-use Rattle.c_accepted.specs.Ready.{IsReady}
-use Rattle.c_sound.specs.Named.{IsNamed}
+use Rattle.pcc_program.specs.Ready.{IsReady}
+use Rattle.c_check_laws.specs.Named.{IsNamed}
 use Rattle.map_lines.specs.Laws.{IsNamedFunction}
 use Rattle.pcc_program.specs.Programs.{IsCompilable}
 

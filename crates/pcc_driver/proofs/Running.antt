@@ -10,14 +10,14 @@ use Rattle.ia32_machine.specs.Runs as runs
 use Rattle.ia32_machine.specs.Runs.{Gives, GivesSoFar, GivesPart, WritesNext}
 use Rattle.ia32_machine.specs.declared.ends.MachineEnd.{MachineEnd}
 use Rattle.ia32_machine.specs.declared.ends.MachineEnd.TheVariants as machine
-use Rattle.pcc_reports.specs.declared.report.Named.TheVariants.{Source, Map, Image, Board}
+use Rattle.pcc_driver.specs.declared.report.Named.TheVariants.{Source, Map, Image, Board}
 use Rattle.pcc_driver.specs.Answers.{ImageTold, IsPut, RunTold, RunGives, RunGivesSoFar, RunGivesPart}
 use Rattle.pcc_driver.specs.Answers.{GivesNoMachine, IsNoImage, report_of_end}
-use Rattle.pcc_reports.specs.Causes.{StreamsCause}
-use Rattle.pcc_reports.specs.Outside.{SameStreams, Work}
-use Rattle.pcc_reports.specs.Sources.{Holds, file_limit}
-use Rattle.pcc_reports.specs.declared.report.Report.{Report}
-use Rattle.pcc_reports.specs.declared.report.Report.TheVariants as reports
+use Rattle.pcc_driver.specs.Causes.{StreamsCause}
+use Rattle.pcc_driver.specs.Outside.{SameStreams, Work}
+use Rattle.pcc_driver.specs.Sources.{Holds, file_limit}
+use Rattle.pcc_driver.specs.declared.report.Report.{Report}
+use Rattle.pcc_driver.specs.declared.report.Report.TheVariants as reports
 
 -- bytes that load nothing have no first state
 pub no_image : (image input : List ℕ) → ((segments : Segments) → Loads image segments → ⊥) → IsNoImage input image

@@ -7,10 +7,10 @@ use Rattle.puzzle_board.specs.declared.piece.State.{State}
 use Rattle.puzzle_board.specs.declared.piece.State.TheVariants.{Unplaced, At, Removed}
 use Rattle.puzzle_board.specs.Boards.{Puzzle, remaining, remaining_in, standing, standing_in}
 use Rattle.puzzle_board.specs.Placements.{IsLegalPlacement, IsSolvable}
-use Rattle.puzzle_choices.specs.Onward.{is_removed}
+use Rattle.puzzle_solver.specs.Onward.{is_removed}
 use Rattle.puzzle_solver.specs.Solved.{IsSolved}
-use Rattle.puzzle_texts.specs.Reading.{fresh_board}
-use Rattle.puzzle_texts.specs.Texts.{placement_text}
+use Rattle.puzzle_solver.specs.Reading.{fresh_board}
+use Rattle.puzzle_solver.specs.Texts.{placement_text}
 use Rattle.pcc_driver.specs.Solutions.{IsAnswer}
 
 -- ---- boards on which nothing is placed or removed

@@ -4,13 +4,13 @@ use Rattle.std.specs.Prelude.{◌⊎◌}
 use Rattle.pcc_base.specs.Counts.{Rose}
 use Rattle.pcc_words.specs.Asked as commands
 use Rattle.pcc_words.specs.Asked.{Command}
-use Rattle.pcc_reports.specs.Causes.{HasCause}
-use Rattle.pcc_reports.specs.Ends.{Ends}
-use Rattle.pcc_reports.specs.Outside.{Outside, Output, Work}
+use Rattle.pcc_driver.specs.Causes.{HasCause}
+use Rattle.pcc_driver.specs.Ends.{Ends}
+use Rattle.pcc_driver.specs.Outside.{Outside, Output, Work}
 use Rattle.pcc_driver.specs.Answers.{CommandTold}
 use Rattle.pcc_driver.specs.Promises.{IsFaultStatus, NoticesFaults}
-use Rattle.pcc_reports.specs.declared.report.Report.TheVariants as reports
-use Rattle.pcc_reports.proofs.Ends.{ended_status}
+use Rattle.pcc_driver.specs.declared.report.Report.TheVariants as reports
+use Rattle.pcc_driver.proofs.Ends.{ended_status}
 
 -- nothing is done
 pub wanting_caused : (work : Work) → HasCause reports.NoMemory work work

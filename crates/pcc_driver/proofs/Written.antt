@@ -1,15 +1,15 @@
 -- What the writes of a compilation leave is what its report tells.
 use Rattle.std.proofs.Common.{◌≡◌, ◌≢◌, ℕ, List, Some, ap, ◌∙◌, inl, inr}
-use Rattle.c_accepted.proofs.Small.{texts_bound_graphs}
+use Rattle.pcc_program.proofs.Small.{texts_bound_graphs}
 use Rattle.pcc_driver.specs.Answers.{CompileTold, WritesTold, MapStands}
 use Rattle.pcc_words.specs.Asked.{map_name}
-use Rattle.pcc_reports.specs.Outside.{Files, SameFiles}
-use Rattle.pcc_reports.specs.Programs.{HaveNoProgram}
-use Rattle.pcc_reports.specs.Sources.{AreRead}
+use Rattle.pcc_driver.specs.Outside.{Files, SameFiles}
+use Rattle.pcc_driver.specs.Programs.{HaveNoProgram}
+use Rattle.pcc_driver.specs.Sources.{AreRead}
 use Rattle.pcc_driver.specs.Products.{AreProducts}
-use Rattle.pcc_reports.specs.declared.report.Named.TheVariants.{Source, Map, Image, Board}
-use Rattle.pcc_reports.specs.declared.report.Report.{Report}
-use Rattle.pcc_reports.specs.declared.report.Report.TheVariants as reports
+use Rattle.pcc_driver.specs.declared.report.Named.TheVariants.{Source, Map, Image, Board}
+use Rattle.pcc_driver.specs.declared.report.Report.{Report}
+use Rattle.pcc_driver.specs.declared.report.Report.TheVariants as reports
 
 -- the map's text stands, and what else changed is the image
 map_stands : (name : List ℕ) (sources texts : List (List ℕ)) (map_bytes image : List ℕ) (old mid new : Files)

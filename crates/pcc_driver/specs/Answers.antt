@@ -11,20 +11,20 @@ use Rattle.ia32_machine.specs.First.{First}
 use Rattle.ia32_machine.specs.Runs.{Reaches, WritesNext}
 use Rattle.ia32_machine.specs.declared.ends.MachineEnd.{MachineEnd}
 use Rattle.ia32_machine.specs.declared.ends.MachineEnd.TheVariants as machine
-use Rattle.pcc_listing.specs.Lines.{map_text}
-use Rattle.pcc_listing.specs.Maps as maps
+use Rattle.map_text.specs.Lines.{map_text}
+use Rattle.map_text.specs.Maps as maps
 use Rattle.c_tree.specs.Program.{Program}
-use Rattle.pcc_headline.specs.Products.{IsImageOf}
-use Rattle.puzzle_texts.specs.Reading.{IsNoBoard}
+use Rattle.pcc_program.specs.Products.{IsImageOf}
+use Rattle.puzzle_solver.specs.Reading.{IsNoBoard}
 use Rattle.pcc_words.specs.Asked.{Command, Compile, Run, Eval, Solve, ManyFiles, Usage, map_name}
-use Rattle.pcc_reports.specs.Programs.{HaveTypedProgram, HaveNoProgram}
-use Rattle.pcc_reports.specs.Sources.{AreRead, Holds, IsTooLong}
-use Rattle.pcc_reports.specs.Ends.{IsUnlessMemory}
-use Rattle.pcc_reports.specs.Outside.{Files, Output, SameFiles, SameStreams, Work}
-use Rattle.pcc_reports.specs.declared.report.Named.{Named}
-use Rattle.pcc_reports.specs.declared.report.Named.TheVariants.{Map, Image, Board}
-use Rattle.pcc_reports.specs.declared.report.Report.{Report}
-use Rattle.pcc_reports.specs.declared.report.Report.TheVariants as reports
+use Rattle.pcc_driver.specs.Programs.{HaveTypedProgram, HaveNoProgram}
+use Rattle.pcc_driver.specs.Sources.{AreRead, Holds, IsTooLong}
+use Rattle.pcc_driver.specs.Ends.{IsUnlessMemory}
+use Rattle.pcc_driver.specs.Outside.{Files, Output, SameFiles, SameStreams, Work}
+use Rattle.pcc_driver.specs.declared.report.Named.{Named}
+use Rattle.pcc_driver.specs.declared.report.Named.TheVariants.{Map, Image, Board}
+use Rattle.pcc_driver.specs.declared.report.Report.{Report}
+use Rattle.pcc_driver.specs.declared.report.Report.TheVariants as reports
 use Rattle.pcc_driver.specs.Evaluations.{EvalTold, SourcesTold}
 use Rattle.pcc_driver.specs.Headline.{IsCompiled}
 use Rattle.pcc_driver.specs.Solutions.{IsSolution}

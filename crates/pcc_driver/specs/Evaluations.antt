@@ -2,14 +2,14 @@
 use Rattle.std.specs.Prelude.{◌≡◌, ◌⊎◌, ℕ, List, ⊤}
 use Rattle.pcc_base.specs.Outcome as outcome
 use Rattle.c_tree.specs.Program.{Program}
-use Rattle.c_eval.specs.declared.end.EvalEnd.{EvalEnd}
-use Rattle.c_eval.specs.declared.end.EvalEnd.TheVariants as evaluation
-use Rattle.c_eval_tasks.specs.Runs as evaluations
-use Rattle.pcc_reports.specs.Outside.{Files, SameStreams, Work}
-use Rattle.pcc_reports.specs.declared.report.Report.{Report}
-use Rattle.pcc_reports.specs.declared.report.Report.TheVariants as reports
-use Rattle.pcc_reports.specs.Reports.{end_status}
-use Rattle.pcc_reports.specs.Programs.{HaveNoProgram, HoldProgram, SourcesStatus}
+use Rattle.c_eval_state.specs.declared.end.EvalEnd.{EvalEnd}
+use Rattle.c_eval_state.specs.declared.end.EvalEnd.TheVariants as evaluation
+use Rattle.c_eval.specs.Runs as evaluations
+use Rattle.pcc_driver.specs.Outside.{Files, SameStreams, Work}
+use Rattle.pcc_driver.specs.declared.report.Report.{Report}
+use Rattle.pcc_driver.specs.declared.report.Report.TheVariants as reports
+use Rattle.pcc_driver.specs.Reports.{end_status}
+use Rattle.pcc_driver.specs.Programs.{HaveNoProgram, HoldProgram, SourcesStatus}
 
 -- the report of an evaluation of so many turns
 abbrev pub report_of_evaluation : ℕ → EvalEnd → Report

@@ -1,15 +1,15 @@
 -- What a compilation leaves: an image that does what the sources' program does.
 use Rattle.std.specs.Prelude.{◌≡◌, ◌≢◌, ℕ, List, Some}
 use Rattle.c_tree.specs.Program.{Program}
-use Rattle.pcc_reports.specs.Programs.{HaveTypedProgram}
-use Rattle.c_accepted.specs.Small.{AreSmallBeside}
-use Rattle.lower_programs.specs.SettledLaws.{NothingLiveFirst}
-use Rattle.pcc_headline.specs.Products.{IsImageOf}
-use Rattle.pcc_listing.specs.Lines.{map_text}
-use Rattle.pcc_listing.specs.Maps.{Map}
+use Rattle.pcc_driver.specs.Programs.{HaveTypedProgram}
+use Rattle.pcc_program.specs.Small.{AreSmallBeside}
+use Rattle.lower_laws.specs.SettledLaws.{NothingLiveFirst}
+use Rattle.pcc_program.specs.Products.{IsImageOf}
+use Rattle.map_text.specs.Lines.{map_text}
+use Rattle.map_text.specs.Maps.{Map}
 use Rattle.pcc_words.specs.Asked.{map_name}
-use Rattle.pcc_reports.specs.Outside.{Files}
-use Rattle.pcc_reports.specs.Sources.{AreRead}
+use Rattle.pcc_driver.specs.Outside.{Files}
+use Rattle.pcc_driver.specs.Sources.{AreRead}
 
 -- What a compilation leaves: the sources have a typed program, NAME.map holds the text of the map of the image (and a
 -- text is the text of one map at most), NAME holds an image that does what the program does by that map, and no other

@@ -1,3 +1,9 @@
+pub mod Causes
+pub mod Ends
+pub mod Outside
+pub mod Reports
+pub mod Programs
+pub mod Sources
 pub mod Answers
 pub mod Headline
 pub mod Products

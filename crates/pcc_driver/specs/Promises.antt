@@ -7,12 +7,12 @@ use Rattle.ia32_insn.specs.Runs.{Runs, no_visits}
 use Rattle.ia32_machine.specs.First.{First}
 use Rattle.pcc_driver.specs.Evaluations.{EvalStatus}
 use Rattle.pcc_driver.specs.Answers.{IsNoImage}
-use Rattle.puzzle_texts.specs.Reading.{IsNoBoard}
+use Rattle.puzzle_solver.specs.Reading.{IsNoBoard}
 use Rattle.pcc_words.specs.Asked.{Command, Compile, Run, Eval, Solve, ManyFiles, Usage}
-use Rattle.pcc_reports.specs.Outside.{Files, Outside, Store, Work}
-use Rattle.pcc_reports.specs.Reports.{end_status}
-use Rattle.pcc_reports.specs.Programs.{SourcesStatus, Excess, Exceed}
-use Rattle.pcc_reports.specs.Sources.{HoldAll, file_limit}
+use Rattle.pcc_driver.specs.Outside.{Files, Outside, Store, Work}
+use Rattle.pcc_driver.specs.Reports.{end_status}
+use Rattle.pcc_driver.specs.Programs.{SourcesStatus, Excess, Exceed}
+use Rattle.pcc_driver.specs.Sources.{HoldAll, file_limit}
 use Rattle.pcc_driver.specs.Solutions.{IsSomeBoard}
 
 -- no count of faults rose

@@ -4,7 +4,7 @@ use Rattle.puzzle_board.specs.declared.area.Area.{Area}
 use Rattle.puzzle_board.specs.declared.piece.Piece.{Piece}
 use Rattle.puzzle_board.specs.Boards.{Puzzle, standing}
 use Rattle.puzzle_board.specs.Placements.{IsLegalPlacement, IsSolvable}
-use Rattle.puzzle_texts.specs.Texts.{IsNumbered, board_text, placement_text}
+use Rattle.puzzle_solver.specs.Texts.{IsNumbered, board_text, placement_text}
 
 -- the text is that of the board with these areas and pieces
 pub record IsBoardText (text : List ℕ) (areas : List Area) (pieces : List Piece) : Type 0 where

@@ -1,18 +1,18 @@
 ghost use Rattle.std.specs.Prelude.{◌≡◌, ◌≢◌, ◌≤◌, ℕ, List, length, map};
 ghost use Rattle.c_tree.specs.Erased.{program_of};
 ghost use Rattle.pcc_outside.specs.Streams.{SinkCounts};
-ghost use Rattle.pcc_reports.specs.Causes.{FilesCause, StreamsCause};
-ghost use Rattle.pcc_reports.specs.Outside.{Files, SameFiles};
-ghost use Rattle.pcc_reports.specs.Programs.{HaveTypedProgram, IsTyped};
-ghost use Rattle.pcc_reports.specs.Sources.{AreRead};
+ghost use Rattle.pcc_driver.specs.Causes.{FilesCause, StreamsCause};
+ghost use Rattle.pcc_driver.specs.Outside.{Files, SameFiles};
+ghost use Rattle.pcc_driver.specs.Programs.{HaveTypedProgram, IsTyped};
+ghost use Rattle.pcc_driver.specs.Sources.{AreRead};
 ghost use Rattle.pcc_driver.specs.Answers.{CompileTold, WritesTold, report_of_write};
 
-use c_accepted::programs_are_ready;
+use crate::report::{Named, Report};
+use crate::typed_sources::program_of_sources;
 use c_tree::Program;
 use pcc_base::NoMemory;
 use pcc_outside::{FileStore, WriteRefusal};
-use pcc_program::{Products, compile_program};
-use pcc_reports::{Named, Report, program_of_sources};
+use pcc_program::{Products, compile_program, programs_are_ready};
 use std::alloc::Global;
 
 /// The report of a refused write.

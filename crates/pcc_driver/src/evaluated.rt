@@ -1,13 +1,14 @@
 //! `eval`: the sources are typed, and their program is evaluated.
 
 ghost use Rattle.std.specs.Prelude.{◌≡◌, ◌≤◌, length, map};
-ghost use Rattle.pcc_reports.specs.Causes.{FilesCause, StreamsCause};
-ghost use Rattle.pcc_reports.specs.Outside.{SameFiles, work_of};
+ghost use Rattle.pcc_driver.specs.Causes.{FilesCause, StreamsCause};
+ghost use Rattle.pcc_driver.specs.Outside.{SameFiles, work_of};
 ghost use Rattle.pcc_driver.specs.Evaluations.{EvalTold, SourcesTold, report_of_evaluation};
 
-use c_eval::EvalEnd;
+use crate::report::Report;
+use crate::typed_sources::program_of_sources;
+use c_eval_state::EvalEnd;
 use pcc_outside::{FileStore, Sink, Source};
-use pcc_reports::{Report, program_of_sources};
 use std::alloc::Global;
 
 /// The report of an evaluation of so many turns.
@@ -51,7 +52,7 @@ pub fn eval<F: FileStore, I: Source, O: Sink>(
 {
     match program_of_sources(alloc, sources, files) {
         Ok(program) => {
-            let end = c_evaluator::eval(alloc, &program, input, out, turns);
+            let end = c_eval::eval(alloc, &program, input, out, turns);
             evaluation_report(turns, end)
         }
         Err(report) => report,

@@ -1,17 +1,26 @@
-//! The top call: what the words of the command line ask for is done over the files, the input and the outputs that
-//! are lent, and the exit status is answered.
+//! The top call: what the words of the command line ask for is done, and the exit status is answered.
 //!
-//! `pcc` in `src/top.rt` carries the promises: a compiled image does exactly what its source does
-//! (`specs/Headline.antt`), and each status has its cause and its line (`specs/Answers.antt`,
-//! `specs/Promises.antt`). `evaluated` has the command `eval`: the outcome of the sources' typed program for so
-//! many turns, behind the bytes that the program writes (`specs/Evaluations.antt`).
+//! In: the words, the files, the input, the output and standard error, which are lent. Out: the exit status, behind the
+//! report's line on standard error. The promise: a compiled image does exactly what its sources do
+//! (`specs/Headline.antt`), and each status has its cause and its line (`specs/Answers.antt`, `specs/Promises.antt`).
+//!
+//! `pcc` in `src/top.rt` carries the promises, and `compile`, `run`, `evaluated` and `solve` carry out the commands.
+//! `reading` and `typed_sources` have the sources that a command names and their typed program; `report`,
+//! `report_lines` and `finished` how a command went, with its line and status.
 #![tactic(auto)]
 
 mod compile;
 mod evaluated;
+mod finished;
+mod reading;
+mod report;
+mod report_lines;
 mod run;
 mod solve;
 mod top;
+mod typed_sources;
 
 pub use evaluated::eval;
+pub use reading::{Unread, read_sources};
 pub use top::pcc;
+pub use typed_sources::unread_report;

@@ -1,8 +1,8 @@
 ghost use Rattle.std.specs.Prelude.{◌≡◌, [], MatchResult};
 ghost use Rattle.elf_image.specs.Segments.{Segments, IsLoadable, Loads, segments_of};
 ghost use Rattle.ia32_machine.specs.First.{first_state};
-ghost use Rattle.pcc_reports.specs.Causes.{FilesCause, StreamsCause};
-ghost use Rattle.pcc_reports.specs.Outside.{SameFiles, work_of};
+ghost use Rattle.pcc_driver.specs.Causes.{FilesCause, StreamsCause};
+ghost use Rattle.pcc_driver.specs.Outside.{SameFiles, work_of};
 ghost use Rattle.pcc_driver.specs.Answers.{
   ImageTold,
   HasNoTokens,
@@ -11,10 +11,12 @@ ghost use Rattle.pcc_driver.specs.Answers.{
   report_of_end,
 };
 
+use crate::reading::FILE_LIMIT;
+use crate::report::{Named, Report};
+use crate::typed_sources::read_report;
 use elf_image::{ImageRefusal, Loaded, read_image};
 use ia32_machine::{Machine, MachineEnd};
 use pcc_outside::{FileStore, Sink, Source};
-use pcc_reports::{FILE_LIMIT, Named, Report, read_report};
 use std::alloc::Global;
 
 /// The segments that the bytes of an image load.

@@ -1,21 +1,23 @@
 ghost use Rattle.std.specs.Prelude.{◌≡◌, ◌≤◌, ℕ, length, IfOk, MatchResult};
 ghost use Rattle.pcc_outside.specs.Files.{StoreCounts};
-ghost use Rattle.puzzle_texts.specs.Reading.{fresh_board};
+ghost use Rattle.puzzle_solver.specs.Reading.{fresh_board};
 ghost use Rattle.pcc_driver.specs.Answers.{
   AnswerPut,
   GivesNoAnswer,
   HasNoTokens,
   SolveTold,
 };
-ghost use Rattle.pcc_reports.specs.Causes.{FilesCause, StreamsCause};
-ghost use Rattle.pcc_reports.specs.Outside.{SameFiles, output_of};
+ghost use Rattle.pcc_driver.specs.Causes.{FilesCause, StreamsCause};
+ghost use Rattle.pcc_driver.specs.Outside.{SameFiles, output_of};
 ghost use Rattle.pcc_driver.specs.Solutions.{IsAnswer, IsSolution};
 
+use crate::reading::FILE_LIMIT;
+use crate::report::{Named, Report};
+use crate::typed_sources::read_report;
 use pcc_base::{NoMemory, Steps};
 use pcc_outside::{FileStore, Sink, WriteRefusal};
-use pcc_reports::{FILE_LIMIT, Named, Report, read_report};
 use puzzle_board::Board;
-use puzzle_texts::{BoardRefusal, print_placement, read_board};
+use puzzle_solver::{BoardRefusal, print_placement, read_board};
 use std::alloc::Global;
 use std::marker::Brand;
 use std::sync::ledger::{Blank, Ledger};

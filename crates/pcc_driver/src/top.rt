@@ -1,21 +1,22 @@
 ghost use Rattle.std.specs.Prelude.{◌≡◌, ◌≤◌, ◌⊎◌, ℕ, List, map, string_bytes};
-ghost use Rattle.pcc_reports.specs.Ends.{Ends};
-ghost use Rattle.pcc_reports.specs.Causes.{HasCause};
+ghost use Rattle.pcc_driver.specs.Ends.{Ends};
+ghost use Rattle.pcc_driver.specs.Causes.{HasCause};
 ghost use Rattle.pcc_driver.specs.Answers.{CommandTold};
 ghost use Rattle.pcc_words.specs.Asked.{command_of, Compile, HasFewSources};
 ghost use Rattle.pcc_driver.specs.Headline.{IsCompiled};
-ghost use Rattle.pcc_reports.specs.Outside.{work_of, outside_of};
+ghost use Rattle.pcc_driver.specs.Outside.{work_of, outside_of};
 ghost use Rattle.pcc_driver.specs.Promises.{IsQuiet, TellsEnough, HasStatus, HasCauses, NoticesFaults};
 ghost use Rattle.pcc_words.specs.Words.{meaning};
-ghost use Rattle.pcc_reports.specs.declared.report.Report.{Report};
+ghost use Rattle.pcc_driver.specs.declared.report.Report.{Report};
 
 use crate::compile::compile;
-use crate::eval;
+use crate::evaluated::eval;
+use crate::finished::{finish, finish_wanting};
+use crate::report::Report;
 use crate::run::run;
 use crate::solve::solve;
 use pcc_base::NoMemory;
 use pcc_outside::{FileStore, Sink, Source};
-use pcc_reports::{Report, finish, finish_wanting};
 use pcc_words::{Command, command_of};
 use std::alloc::Global;
 

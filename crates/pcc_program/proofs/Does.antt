@@ -10,34 +10,34 @@ use Rattle.c_tree.specs.Program.{Program}
 use Rattle.elf_image.specs.Layout.{Fits, image_bytes}
 use Rattle.elf_image.specs.Segments.{parts_of}
 use Rattle.elf_link.specs.declared.linked.Linked.{Linked}
-use Rattle.elf_addresses.specs.Parts.{order_of}
+use Rattle.elf_link.specs.Parts.{order_of}
 use Rattle.flow_graph.specs.Graphs.{Flow, IsPlaced}
 use Rattle.flow_graph.specs.States.{GraphProgram}
 use Rattle.flow_graph.proofs.Lists.{All-at}
 use Rattle.ia32_asm.specs.declared.section.Section.{Section}
-use Rattle.ia32_frames.specs.declared.frame.Frame.{Frame}
-use Rattle.ia32_frames.specs.Frames.{frame_bytes, frame_placement}
-use Rattle.ia32_frames.specs.Laws.{FramesHaveSlots, FramesSupport, OffsetsAreBelow}
+use Rattle.ia32_select.specs.declared.frame.Frame.{Frame}
+use Rattle.ia32_select.specs.Frames.{frame_bytes, frame_placement}
+use Rattle.ia32_select.specs.Laws.{FramesHaveSlots, FramesSupport, OffsetsAreBelow}
 use Rattle.ia32_insn.specs.Items.{data_bytes}
-use Rattle.ia32_programs.specs.Supports.{AreSlots}
-use Rattle.ia32_programs.specs.Right.{ProgramsAreRight}
+use Rattle.ia32_laws.specs.Supports.{AreSlots}
+use Rattle.ia32_laws.specs.Right.{ProgramsAreRight}
 use Rattle.ia32_rows.specs.Placements.{Code, in_slots, no_placement, objects_of, placement_of, point_address}
-use Rattle.ia32_functions.specs.Sizes.{SelectedIsCode}
-use Rattle.ia32_programs.specs.StandingLaws.{IsSelected}
-use Rattle.pcc_headline.specs.Begins.{parts_of_text}
-use Rattle.lower_programs.specs.VisitsLaws.{VisitsAreKnown}
-use Rattle.elf_addresses.proofs.Data.{length-data}
+use Rattle.ia32_select.specs.Sizes.{SelectedIsCode}
+use Rattle.ia32_laws.specs.StandingLaws.{IsSelected}
+use Rattle.pcc_program.specs.Begins.{parts_of_text}
+use Rattle.lower_laws.specs.VisitsLaws.{VisitsAreKnown}
+use Rattle.elf_link.proofs.DataSize.{length-data}
 use Rattle.map_lines.specs.Laws.{IsOverSlots, MapBelongs, MapBySameAddresses, MapKeepsRules, MapListsLocals, map_in}
 use Rattle.map_lines.specs.Shown.{address_in, homes_of}
 use Rattle.map_lines.specs.VisitsLaws.{MapShowsVisits}
-use Rattle.pcc_headline.specs.Laws.{CompiledDoesAs, IsCompiled}
-use Rattle.pcc_headline.specs.Products.{IsImageOf, image_of}
-use Rattle.pcc_listing.specs.Maps.{Map}
-use Rattle.pcc_listing.specs.Marks.{listed}
+use Rattle.pcc_program.specs.CompiledLaws.{CompiledDoesAs, IsCompiled}
+use Rattle.pcc_program.specs.Products.{IsImageOf, image_of}
+use Rattle.map_text.specs.Maps.{Map}
+use Rattle.map_text.specs.Marks.{listed}
 use Rattle.pcc_program.specs.Code.{HasFrame, HaveFrames, IsFramedCode, framed_items}
 use Rattle.pcc_program.specs.CodeLaws.{FramedIsSelected, GraphsHaveFrames}
 use Rattle.map_lines.specs.ProgramMap.{Homes, program_map}
-use Rattle.pcc_program.specs.Laws.{AreLinked, linked_map}
+use Rattle.pcc_program.specs.LinkedLaws.{AreLinked, linked_map}
 use Rattle.pcc_program.proofs.Mapped.{frame-at, has-slots, placement-is}
 use Rattle.pcc_program.proofs.Placed.{framed, linked_code, objects-small, point-entry, same-objects}
 

@@ -8,16 +8,16 @@ use Rattle.pcc_base.specs.Objects.{IsObject, Object}
 use Rattle.flow_graph.specs.Graphs.{Flow, empty_flow}
 use Rattle.flow_graph.specs.Sizes.{most_words}
 use Rattle.flow_graph.specs.States.{flow_at}
-use Rattle.elf_addresses.specs.Parts.{objects_size}
+use Rattle.elf_link.specs.Parts.{objects_size}
 use Rattle.ia32_insn.specs.declared.item.Item.{Item}
 use Rattle.ia32_insn.specs.Items.{data_bytes, elements_size, round_up, text_start}
-use Rattle.ia32_frames.specs.Frames.{frame_placement}
-use Rattle.ia32_frames.specs.Laws.{FramesSupport}
-use Rattle.ia32_programs.specs.Supports.{IsSupported, Supports}
+use Rattle.ia32_select.specs.Frames.{frame_placement}
+use Rattle.ia32_select.specs.Laws.{FramesSupport}
+use Rattle.ia32_laws.specs.Supports.{IsSupported, Supports}
 use Rattle.ia32_rows.specs.Rows.{selected}
 use Rattle.ia32_rows.specs.Placements.{Code, Placement, no_placement, objects_of, placement_of}
 use Rattle.flow_graph.specs.WellFormed.{IsGraphProgram}
-use Rattle.elf_addresses.proofs.Data.{length-data}
+use Rattle.elf_link.proofs.DataSize.{length-data}
 use Rattle.pcc_program.specs.Code.{HasFrame, HaveFrames, IsFramedCode, framed_items}
 use Rattle.pcc_program.specs.CodeLaws.{FramedIsSelected}
 

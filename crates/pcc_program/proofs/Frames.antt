@@ -10,7 +10,7 @@ use Rattle.flow_graph.specs.Graphs.{Flow}
 use Rattle.flow_graph.specs.WellFormed.{IsGraph}
 use Rattle.lower_lines.specs.Lowering.{HasShape, arrays_in, points_in, words_in}
 use Rattle.lower_lines.specs.Words.{FunctionHasWords}
-use Rattle.ia32_functions.specs.Sizes.{BlocksAreFew, most_bytes}
+use Rattle.ia32_select.specs.Sizes.{BlocksAreFew, most_bytes}
 use Rattle.pcc_program.specs.Code.{HasFrame}
 use Rattle.pcc_program.specs.CodeLaws.{GraphsHaveFrames}
 

@@ -13,10 +13,10 @@ use Rattle.ia32_asm.specs.declared.section.Section.{Section}
 use Rattle.ia32_asm.specs.declared.section.Symbol.{Symbol}
 use Rattle.ia32_asm.specs.declared.section.Target.{Target}
 use Rattle.ia32_asm.specs.Sections.{IsSection, target_of}
-use Rattle.elf_addresses.specs.Parts.{CanHold, IsThere, function_of, order_of, sections_size}
+use Rattle.elf_link.specs.Parts.{CanHold, IsThere, function_of, order_of, sections_size}
 use Rattle.elf_link.specs.Linking.{AreSections, CanLink, FitsIn}
 use Rattle.elf_link.proofs.Placing.{follow_inside}
-use Rattle.ia32_functions.specs.Sizes.{NamesThere, most_bytes}
+use Rattle.ia32_select.specs.Sizes.{NamesThere, most_bytes}
 use Rattle.pcc_program.specs.Code.{framed_items}
 use Rattle.pcc_program.specs.Passes.{AreSectionsFrom, IsSectionOf}
 

@@ -5,7 +5,7 @@ use Rattle.std.specs.List.{AllZip}
 use Rattle.std.proofs.lemmas.Option.{none-some, same_Some}
 use Rattle.flow_graph.specs.Graphs.{Flow}
 use Rattle.ia32_asm.specs.declared.section.Section.{Section}
-use Rattle.ia32_frames.specs.declared.frame.Frame.{Frame}
+use Rattle.ia32_select.specs.declared.frame.Frame.{Frame}
 use Rattle.pcc_program.specs.Passes.{AreSectionsFrom, IsFrameOf, IsSectionOf}
 
 frames-suc : (flows : List Flow) (frames : List Frame) (k : ℕ) (flow : Flow) (frame : Frame)

@@ -6,11 +6,11 @@ use Rattle.std.specs.List.{AllZip, range_with_len}
 use Rattle.std.proofs.lemmas.Option.{none-some, same_Some}
 use Rattle.flow_graph.specs.Graphs.{Flow}
 use Rattle.ia32_emit.specs.Locations.{distance, slots_of}
-use Rattle.ia32_frames.specs.declared.frame.Frame.{Frame}
-use Rattle.ia32_frames.specs.Frames.{frame_arrays, frame_bytes, frame_placement, frame_slots, offset_of}
-use Rattle.ia32_frames.specs.Frames.{slot_at}
-use Rattle.ia32_frames.specs.Laws.{FramesHaveSlots, OffsetsAreBelow}
-use Rattle.ia32_programs.specs.Supports.{AreSlots}
+use Rattle.ia32_select.specs.declared.frame.Frame.{Frame}
+use Rattle.ia32_select.specs.Frames.{frame_arrays, frame_bytes, frame_placement, frame_slots, offset_of}
+use Rattle.ia32_select.specs.Frames.{slot_at}
+use Rattle.ia32_select.specs.Laws.{FramesHaveSlots, OffsetsAreBelow}
+use Rattle.ia32_laws.specs.Supports.{AreSlots}
 use Rattle.ia32_rows.specs.Placements.{in_slots}
 use Rattle.map_lines.specs.Shown.{AreBelow, homes_of}
 use Rattle.map_lines.specs.ProgramMap.{Homes}

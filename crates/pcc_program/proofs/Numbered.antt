@@ -11,7 +11,7 @@ use Rattle.c_tree.specs.WellTyped.{CountUp, functions_numbers, statements_number
 use Rattle.lower_lines.specs.Lowering.{first_statement}
 use Rattle.lower_lines.specs.Shown.{numbers_of}
 use Rattle.lower_lines.proofs.Marks.{numbers-of}
-use Rattle.lower_programs.proofs.Sizes.{statements-small}
+use Rattle.lower_laws.proofs.Sizes.{statements-small}
 
 -- two lists that count up together
 parted : (a n : ℕ) (xs ys : List ℕ) → xs ++ ys ≡ range_with_len a n

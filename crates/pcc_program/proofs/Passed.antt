@@ -6,24 +6,24 @@ use Rattle.std.proofs.lemmas.List.Elements.{All-cons, All-head, All-nil, All-tai
 use Rattle.pcc_base.specs.Bytes.{AreBytes}
 use Rattle.c_tree.specs.Program.{Program}
 use Rattle.elf_link.specs.declared.linked.Linked.{Linked}
-use Rattle.elf_addresses.specs.Parts.{order_of, sections_size}
+use Rattle.elf_link.specs.Parts.{order_of, sections_size}
 use Rattle.elf_link.specs.Linking.{AreSections, CanLink, IsLinked}
 use Rattle.elf_link.specs.Placed.{routines_size}
 use Rattle.flow_graph.specs.Graphs.{Flow}
 use Rattle.flow_graph.specs.States.{GraphProgram}
 use Rattle.flow_graph.proofs.Lists.{All-at}
 use Rattle.ia32_asm.specs.declared.section.Section.{Section}
-use Rattle.ia32_frames.specs.declared.frame.Frame.{Frame}
-use Rattle.ia32_frames.specs.Frames.{frame_bytes, frame_placement}
-use Rattle.ia32_frames.specs.Laws.{FramesSupport}
+use Rattle.ia32_select.specs.declared.frame.Frame.{Frame}
+use Rattle.ia32_select.specs.Frames.{frame_bytes, frame_placement}
+use Rattle.ia32_select.specs.Laws.{FramesSupport}
 use Rattle.ia32_insn.specs.declared.item.Item.{Item}
-use Rattle.ia32_functions.specs.Sizes.{SelectedIsCode}
-use Rattle.lower_programs.specs.Lowered.{AreLowered}
-use Rattle.elf_addresses.proofs.Data.{length-data}
+use Rattle.ia32_select.specs.Sizes.{SelectedIsCode}
+use Rattle.lower_laws.specs.Lowered.{AreLowered}
+use Rattle.elf_link.proofs.DataSize.{length-data}
 use Rattle.map_lines.specs.Shown.{CanShowAll, address_in, homes_of}
 use Rattle.map_lines.specs.ProgramMap.{program_map}
 use Rattle.pcc_program.specs.Code.{HasFrame, HaveFrames, framed_items}
-use Rattle.pcc_program.specs.Laws.{AreLinked}
+use Rattle.pcc_program.specs.LinkedLaws.{AreLinked}
 use Rattle.pcc_program.specs.Passes.{AreSectionsFrom, IsFrameOf}
 use Rattle.pcc_program.specs.Programs.{IsCompilable}
 use Rattle.pcc_program.proofs.Linking.{are-sections, can-link, sections-small}

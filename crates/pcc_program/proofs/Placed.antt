@@ -16,9 +16,9 @@ use Rattle.c_typing.specs.Typed.{arrays_bytes, object_bytes}
 use Rattle.flow_graph.specs.Graphs.{Flow}
 use Rattle.flow_graph.specs.States.{GraphProgram}
 use Rattle.elf_link.specs.declared.linked.Linked.{Linked}
-use Rattle.elf_addresses.specs.Parts.{CanHold, objects_size}
+use Rattle.elf_link.specs.Parts.{CanHold, objects_size}
 use Rattle.elf_link.specs.Linking.{IsLinked}
-use Rattle.ia32_frames.specs.Frames.{frame_placement}
+use Rattle.ia32_select.specs.Frames.{frame_placement}
 use Rattle.ia32_insn.specs.declared.item.Item.TheVariants as item
 use Rattle.ia32_insn.specs.Items.{IsText, Places, elements_size}
 use Rattle.ia32_asm.specs.Sections.{Stands}

@@ -11,19 +11,19 @@ use Rattle.pcc_base.proofs.Lists.{all-at}
 use Rattle.c_tree.specs.Objects.{data_object}
 use Rattle.c_tree.specs.Program.{Function, Program, StaticObject}
 use Rattle.elf_link.specs.declared.linked.Linked.{Linked}
-use Rattle.elf_addresses.specs.Parts.{order_of}
+use Rattle.elf_link.specs.Parts.{order_of}
 use Rattle.flow_graph.specs.Graphs.{Flow, IsPlaced}
 use Rattle.flow_graph.specs.States.{GraphProgram}
 use Rattle.ia32_asm.specs.declared.section.Section.{Section}
-use Rattle.ia32_frames.specs.declared.frame.Frame.{Frame}
-use Rattle.ia32_frames.specs.Frames.{frame_arrays, frame_bytes, frame_placement, frame_slots, offset_of}
+use Rattle.ia32_select.specs.declared.frame.Frame.{Frame}
+use Rattle.ia32_select.specs.Frames.{frame_arrays, frame_bytes, frame_placement, frame_slots, offset_of}
 use Rattle.ia32_insn.specs.Items.{data_start}
-use Rattle.ia32_programs.specs.Supports.{AreSlots}
+use Rattle.ia32_laws.specs.Supports.{AreSlots}
 use Rattle.ia32_rows.specs.Rows.{IsSlot}
 use Rattle.lower_lines.specs.Lowering.{array_of, first_statement}
 use Rattle.ia32_insn.proofs.Objects.{length-object_addresses}
 use Rattle.map_lines.specs.Shown.{AreBelow, CanShow, CanShowAll}
-use Rattle.pcc_program.specs.Laws.{AreLinked}
+use Rattle.pcc_program.specs.LinkedLaws.{AreLinked}
 use Rattle.pcc_program.proofs.Does.{Laws, frame-of, have-frames}
 use Rattle.pcc_program.proofs.Mapped.{frame-there}
 use Rattle.pcc_program.proofs.Numbered.{few-statements, numbered}

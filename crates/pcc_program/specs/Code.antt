@@ -5,11 +5,11 @@ use Rattle.flow_graph.specs.Graphs.{Flow}
 use Rattle.flow_graph.specs.Sizes.{most_words}
 use Rattle.flow_graph.specs.States.{GraphProgram}
 use Rattle.flow_graph.specs.WellFormed.{IsGraph}
-use Rattle.elf_addresses.specs.Parts.{objects_size}
+use Rattle.elf_link.specs.Parts.{objects_size}
 use Rattle.ia32_insn.specs.declared.item.Item.{Item}
 use Rattle.ia32_rows.specs.Rows.{selected}
-use Rattle.ia32_frames.specs.Frames.{frame_bytes, frame_placement}
-use Rattle.ia32_functions.specs.Sizes.{most_bytes}
+use Rattle.ia32_select.specs.Frames.{frame_bytes, frame_placement}
+use Rattle.ia32_select.specs.Sizes.{most_bytes}
 use Rattle.ia32_rows.specs.Placements.{Code, IsCode, objects_of}
 
 -- The graph is one of a program of so many functions and objects. A call takes at most 0x4000 bytes of the stack: the

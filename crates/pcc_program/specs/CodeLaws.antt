@@ -5,7 +5,7 @@ use Rattle.flow_graph.specs.WellFormed.{IsGraphProgram}
 use Rattle.lower_lines.specs.Lowering.{AreSmall, HaveShapes}
 use Rattle.lower_lines.specs.Words.{IsInMemory}
 use Rattle.ia32_rows.specs.Placements.{Code}
-use Rattle.ia32_programs.specs.StandingLaws.{IsSelected}
+use Rattle.ia32_laws.specs.StandingLaws.{IsSelected}
 use Rattle.pcc_program.specs.Code.{HaveFrames, IsFramedCode}
 
 -- the graphs of a program in memory, of its shape and size, have frames within the limits

@@ -1,4 +1,13 @@
-pub mod Laws
+pub mod CompiledLaws
+pub mod Products
+pub mod Begins
+pub mod Ready
+pub mod LimitLaws
+pub mod MemoryLaws
+pub mod Small
+pub mod TokensLaws
+pub mod DeclaredFirstLaws
+pub mod LinkedLaws
 pub mod Passes
 pub mod Programs
 pub mod Code

@@ -3,9 +3,9 @@ use Rattle.std.specs.Prelude.{◌≡◌, ◌≤◌, ◌+◌, ℕ, List, [], ◌�
 use Rattle.flow_graph.specs.Graphs.{Flow}
 use Rattle.ia32_asm.specs.declared.section.Section.{Section}
 use Rattle.ia32_asm.specs.Sections.{IsSection}
-use Rattle.ia32_frames.specs.declared.frame.Frame.{Frame}
-use Rattle.ia32_frames.specs.Frames.{frame_arrays, frame_bytes, frame_slots, offset_of}
-use Rattle.ia32_functions.specs.Sizes.{most_bytes}
+use Rattle.ia32_select.specs.declared.frame.Frame.{Frame}
+use Rattle.ia32_select.specs.Frames.{frame_arrays, frame_bytes, frame_slots, offset_of}
+use Rattle.ia32_select.specs.Sizes.{most_bytes}
 use Rattle.pcc_program.specs.Code.{framed_items}
 
 -- the frame of a graph, as the code holds it: offsets from EBP

@@ -2,8 +2,7 @@
 
 ghost use Rattle.pcc_program.specs.CodeLaws.{FramedIsSelected, GraphsHaveFrames};
 
-use ia32_frames::frames_support;
-use ia32_functions::blocks_are_few;
+use ia32_select::{blocks_are_few, frames_support};
 
 /// The graphs of a program in memory have frames with a slot for each variable, within all limits.
 pub fn graphs_have_frames()

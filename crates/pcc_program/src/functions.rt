@@ -2,15 +2,14 @@
 
 ghost use Rattle.std.specs.Prelude.{ℕ, ◌≡◌, ◌<◌, ◌≤◌, ◌+◌, ◌^◌, IfOk, length, sum_by};
 ghost use Rattle.std.specs.List.{All, AllZip};
-ghost use Rattle.ia32_frames.specs.Frames.{frame_bytes};
-ghost use Rattle.ia32_functions.specs.Sizes.{most_bytes};
+ghost use Rattle.ia32_select.specs.Frames.{frame_bytes};
+ghost use Rattle.ia32_select.specs.Sizes.{most_bytes};
 ghost use Rattle.pcc_program.specs.Code.{HasFrame};
 ghost use Rattle.pcc_program.specs.Passes.{AreSectionsFrom, IsFrameOf, IsSectionOf};
 
 use flow_graph::Graph;
 use ia32_asm::{Section, assemble};
-use ia32_frames::{Frame, frames_support, offsets_are_below};
-use ia32_functions::{select_function, selected_is_code};
+use ia32_select::{Frame, frames_support, offsets_are_below, select_function, selected_is_code};
 use pcc_base::NoMemory;
 use std::alloc::Global;
 

@@ -2,22 +2,21 @@
 
 ghost use Rattle.std.specs.Prelude.{IfOk};
 ghost use Rattle.c_tree.specs.Erased.{program_of};
-ghost use Rattle.pcc_headline.specs.Products.{AreProducts};
+ghost use Rattle.pcc_program.specs.Products.{AreProducts};
 ghost use Rattle.pcc_program.specs.Programs.{IsCompilable};
 
+use crate::code::graphs_have_frames;
 use crate::functions::{frames_of, sections_of};
-use crate::graphs_have_frames;
-use crate::laws::linked_does_as;
+use crate::linked_laws::linked_does_as;
 use crate::ranges::are_bytes;
 use c_tree::Program;
 use elf_image::write_image;
 use elf_link::link;
-use ia32_frames::frames_support;
-use ia32_functions::selected_is_code;
+use ia32_select::{frames_support, selected_is_code};
 use lower::lower;
 use map_lines::map_lines;
+use map_text::print_lines;
 use pcc_base::NoMemory;
-use pcc_listing::print_lines;
 use std::alloc::Global;
 
 /// What is made of a program: the text of its map, and the bytes of its image.

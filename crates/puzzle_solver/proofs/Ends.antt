@@ -15,12 +15,12 @@ use Rattle.puzzle_board.specs.Boards.{same_letter, same_width, standing, standin
 use Rattle.puzzle_board.specs.Placements.{IsSolvable, clear_all}
 use Rattle.puzzle_board.specs.Bounds.{IsBounded, counts_of}
 use Rattle.puzzle_board.proofs.Necessary.{solvable_is_bounded}
-use Rattle.puzzle_choices.specs.declared.counts.AreaCounts.{AreaCounts}
-use Rattle.puzzle_choices.specs.declared.counts.PieceCounts.{PieceCounts}
+use Rattle.puzzle_solver.specs.declared.board_counts.AreaCounts.{AreaCounts}
+use Rattle.puzzle_solver.specs.declared.board_counts.PieceCounts.{PieceCounts}
 use Rattle.puzzle_solver.specs.Columns.{IsWaiting}
-use Rattle.puzzle_choices.specs.Plans.{numbers}
+use Rattle.puzzle_solver.specs.Plans.{numbers}
 use Rattle.puzzle_solver.specs.Counting.{AreasAre, PiecesAre}
-use Rattle.puzzle_choices.specs.Onward.{IsOnward, is_removed}
+use Rattle.puzzle_solver.specs.Onward.{IsOnward, is_removed}
 use Rattle.puzzle_solver.specs.Solved.{IsSolved}
 use Rattle.puzzle_solver.proofs.Worths.{lower-worth, lower-worth-most, upper-worth, upper-worth-most}
 

@@ -1,6 +1,13 @@
+pub mod Onward
+pub mod Fillings
+pub mod Orders
 pub mod Ends
 pub mod Ready
 pub mod RoomWorths
 pub mod Rooms
 pub mod Worths
 pub mod Spilling
+pub mod OneText
+pub mod Lines
+pub mod Read
+pub mod Boards

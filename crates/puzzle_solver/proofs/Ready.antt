@@ -4,12 +4,12 @@ use Rattle.puzzle_board.specs.declared.area.AreaKind.TheVariants.{E, U1, L1, U0,
 use Rattle.puzzle_board.specs.declared.piece.Kind.TheVariants.{X, Y, Z}
 use Rattle.puzzle_board.specs.Boards.{Puzzle}
 use Rattle.puzzle_board.specs.Bounds.{IsBounded}
-use Rattle.puzzle_choices.specs.declared.counts.AreaCounts.{AreaCounts}
-use Rattle.puzzle_choices.specs.declared.counts.PieceCounts.{PieceCounts}
-use Rattle.puzzle_choices.specs.declared.wide.Plan.{Plan}
-use Rattle.puzzle_choices.specs.Plans.{IsPlan, numbers}
+use Rattle.puzzle_solver.specs.declared.board_counts.AreaCounts.{AreaCounts}
+use Rattle.puzzle_solver.specs.declared.board_counts.PieceCounts.{PieceCounts}
+use Rattle.puzzle_solver.specs.declared.wide_shares.Plan.{Plan}
+use Rattle.puzzle_solver.specs.Plans.{IsPlan, numbers}
 use Rattle.puzzle_solver.specs.Counting.{AreasAre, IsReady, PiecesAre}
-use Rattle.puzzle_choices.specs.Filling.{Filled, left_by}
+use Rattle.puzzle_solver.specs.Filling.{Filled, left_by}
 use Rattle.puzzle_solver.proofs.Worths.{both-worth, lower-worth, upper-worth}
 
 pub ready :

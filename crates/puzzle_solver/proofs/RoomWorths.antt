@@ -15,7 +15,7 @@ use Rattle.puzzle_board.specs.Boards.{Puzzle, free_areas, standing}
 use Rattle.puzzle_board.proofs.Kept.{length-clear_all}
 use Rattle.puzzle_solver.specs.Columns.{IsRoom, IsWaiting, columns, columns_from, room}
 use Rattle.puzzle_solver.specs.Counting.{IsReady}
-use Rattle.puzzle_choices.specs.Onward.{IsOnward}
+use Rattle.puzzle_solver.specs.Onward.{IsOnward}
 use Rattle.puzzle_solver.proofs.Rooms.{from-end, from-none}
 
 -- the free cells that a piece of this kind and of width One asks for, by kind of area

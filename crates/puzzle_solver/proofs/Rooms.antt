@@ -18,8 +18,8 @@ use Rattle.puzzle_board.specs.Placements.{clear_at, fits_at}
 use Rattle.puzzle_board.proofs.Cells.{fits_at-clear_at}
 use Rattle.puzzle_solver.specs.Columns.{IsChanged, IsRoom, IsWaiting, PlacedIfAny, columns}
 use Rattle.puzzle_solver.specs.Columns.{columns_behind, columns_from, room, used}
-use Rattle.puzzle_choices.specs.Onward.{IsFirstPlaced}
-use Rattle.puzzle_choices.proofs.Onward.{onward-more, onward-none}
+use Rattle.puzzle_solver.specs.Onward.{IsFirstPlaced}
+use Rattle.puzzle_solver.proofs.Onward.{onward-more, onward-none}
 
 -- ---- columns
 

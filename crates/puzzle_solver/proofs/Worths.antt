@@ -10,9 +10,9 @@ use Rattle.puzzle_board.specs.Boards.{Puzzle, free_areas}
 use Rattle.puzzle_board.specs.Bounds.{both_of, lower_of, upper_of}
 use Rattle.puzzle_board.specs.Worth.{both_price, lower_price, upper_price, worth}
 use Rattle.puzzle_board.proofs.Prices.{worth-total}
-use Rattle.puzzle_choices.specs.declared.counts.AreaCounts.{AreaCounts}
-use Rattle.puzzle_choices.specs.declared.counts.PieceCounts.{PieceCounts}
-use Rattle.puzzle_choices.specs.Plans.{numbers}
+use Rattle.puzzle_solver.specs.declared.board_counts.AreaCounts.{AreaCounts}
+use Rattle.puzzle_solver.specs.declared.board_counts.PieceCounts.{PieceCounts}
+use Rattle.puzzle_solver.specs.Plans.{numbers}
 use Rattle.puzzle_solver.specs.Counting.{AreasAre}
 
 pub both-worth :

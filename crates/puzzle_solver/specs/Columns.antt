@@ -11,7 +11,7 @@ use Rattle.puzzle_board.specs.declared.piece.Spot.{Spot}
 use Rattle.puzzle_board.specs.Areas.{fits_column, share_column}
 use Rattle.puzzle_board.specs.Boards.{Puzzle, free_areas, piece_count}
 use Rattle.puzzle_board.specs.Placements.{fits_at}
-use Rattle.puzzle_choices.specs.Onward.{IsFirstPlaced, IsOnward}
+use Rattle.puzzle_solver.specs.Onward.{IsFirstPlaced, IsOnward}
 
 -- the columns of these areas, in order
 abbrev pub columns : List Area → List Column

@@ -7,8 +7,8 @@ use Rattle.puzzle_board.specs.declared.piece.Kind.TheVariants.{X, Y, Z}
 use Rattle.puzzle_board.specs.Boards.{Puzzle, area_count, free_areas, piece_count, unplaced}
 use Rattle.puzzle_board.specs.Bounds.{Counts, both_of, counts_of, lower_of, upper_of}
 use Rattle.puzzle_board.specs.Worth.{both_price, lower_price, upper_price, worth}
-use Rattle.puzzle_choices.specs.declared.counts.AreaCounts.{AreaCounts}
-use Rattle.puzzle_choices.specs.declared.counts.PieceCounts.{PieceCounts}
+use Rattle.puzzle_solver.specs.declared.board_counts.AreaCounts.{AreaCounts}
+use Rattle.puzzle_solver.specs.declared.board_counts.PieceCounts.{PieceCounts}
 
 -- the counts of the areas and of the unplaced pieces
 abbrev pub board_counts : Puzzle → Counts

@@ -1,4 +1,10 @@
+pub mod Plans
+pub mod Onward
+pub mod Filling
+pub mod Orders
 pub mod Columns
 pub mod Counting
 pub mod Solved
 pub mod Prefixes
+pub mod Texts
+pub mod Reading

@@ -5,7 +5,7 @@ ghost use Rattle.puzzle_board.specs.Classes.{IsAmong};
 ghost use Rattle.puzzle_solver.specs.Solved.{IsSolved};
 ghost use Rattle.puzzle_solver.specs.Prefixes.{IsShortest, without_variables};
 
-use crate::solve;
+use crate::solving::solve;
 use pcc_base::{NoMemory, Steps};
 use puzzle_board::Board;
 use std::alloc::Global;

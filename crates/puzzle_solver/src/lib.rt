@@ -1,16 +1,34 @@
-//! In: a board, no piece of which is placed. Out: whether it has a legal placement; if so, every piece is placed.
-//! The promise: true with a legal placement and false exactly where there is none, in at most 32 steps an area and
-//! 128 more (`specs/Solved.antt`).
+//! Register allocation at one point, by puzzle solving; and boards and placements as texts.
 //!
-//! For a board and its variables in the order in which they are spilled, the variables that are: the shortest
-//! prefix of the order without whose pieces the board is solvable (`specs/Prefixes.antt`).
+//! In: a board, no piece of which is placed, or the text of one; variables with their distances. Out: whether it has a
+//! legal placement, with every piece placed if so; the variables that are spilled where it has none; the text of a
+//! placement. The promise: `solve` is true with a legal placement and false exactly where there is none, in at most 32
+//! steps an area and 128 more (`specs/Solved.antt`); `fit` spills the shortest prefix of the order without whose pieces
+//! the board is solvable (`specs/Prefixes.antt`); a text is refused exactly where it is no board's
+//! (`specs/Texts.antt`). The only other refusal is want of memory.
+//!
+//! `board_counts`, `wide_shares` and `place` choose how many pieces of width Two go where and the areas that take them,
+//! `order` what is spilled first; `board_text`, `word_reading` and `placement_text` have the texts.
 #![tactic(auto)]
 
-mod counts;
+mod board_counts;
+mod board_text;
 mod fitting;
+mod kept_bounds;
 mod narrow;
+mod order;
+mod place;
+mod placement_text;
 mod solving;
-mod wide;
+mod text_laws;
+mod wide_places;
+mod wide_shares;
+mod word_reading;
+mod words;
 
+pub use board_text::{BoardRefusal, read_board};
 pub use fitting::fit;
+pub use order::{Candidate, spill_order};
+pub use placement_text::print_placement;
 pub use solving::solve;
+pub use text_laws::one_board;

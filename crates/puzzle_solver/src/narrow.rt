@@ -3,13 +3,13 @@ ghost use Rattle.pcc_base.specs.declared.run.Width.TheVariants.{One};
 ghost use Rattle.puzzle_board.specs.Areas.{fits_column, is_of_width};
 ghost use Rattle.puzzle_board.specs.Boards.{free_areas, piece_count};
 ghost use Rattle.puzzle_board.specs.Placements.{fits_at};
-ghost use Rattle.puzzle_choices.specs.Onward.{IsOnward};
+ghost use Rattle.puzzle_solver.specs.Onward.{IsOnward};
 ghost use Rattle.puzzle_solver.specs.Columns.{IsChanged, IsRoom, IsWaiting, PlacedIfAny, columns_from, used};
 ghost use Rattle.puzzle_solver.specs.Counting.{IsReady};
 
+use crate::place::place_first;
 use pcc_base::{Steps, Width};
 use puzzle_board::{Board, Column, Columns, Kind, Spot};
-use puzzle_choices::place_first;
 use std::sync::ledger::Ledger;
 
 /// How many pieces of width One are neither placed nor removed.

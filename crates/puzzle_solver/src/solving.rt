@@ -4,12 +4,12 @@ ghost use Rattle.puzzle_board.specs.Placements.{IsSolvable};
 ghost use Rattle.std.specs.Bool.{OnFalse, OnTrue};
 ghost use Rattle.puzzle_solver.specs.Solved.{IsSolved};
 
-use crate::counts::{areas_of, is_bounded, pieces_of};
+use crate::kept_bounds::{areas_of, is_bounded, pieces_of};
 use crate::narrow::{Waiting, place_narrow};
-use crate::wide::place_wide;
+use crate::wide_places::place_wide;
+use crate::wide_shares::Plan;
 use pcc_base::Steps;
 use puzzle_board::Board;
-use puzzle_choices::Plan;
 use std::sync::ledger::Ledger;
 
 /// Places every piece that isn't removed, and answers true; or answers false where there is no legal placement, and

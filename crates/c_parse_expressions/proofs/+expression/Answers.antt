@@ -10,9 +10,9 @@ use Rattle.c_syntax.specs.Taking.{take_specifiers, take_pointer}
 use Rattle.c_syntax.proofs.Chains.{continues_goes}
 use Rattle.c_syntax.proofs.Reading.{expression_above, assignment_above, conditional_above}
 use Rattle.c_syntax.proofs.Reading.{binary_above, cast_above, unary_above}
-use Rattle.c_cursor.proofs.Refused.{refused_turn, last_turn, refused_fault}
+use Rattle.c_parse_expressions.proofs.Refused.{refused_turn, last_turn, refused_fault}
 use Rattle.c_parse_expressions.specs.Values.{values_of}
-use Rattle.c_parse_expressions.specs.Readings.{reader_of, below}
+use Rattle.c_parse_expressions.specs.ExpressionReadings.{reader_of, below}
 use Rattle.c_parse_expressions.proofs.Turns.{same_reading, none_below, no_arguments, no_cast_behind, cast_is}
 use Rattle.c_parse_expressions.proofs.Turns.{reading_behind, arguments_begun, below_node, at_most}
 use Rattle.c_parse_expressions.proofs.Levels.{levels_passed, level_reads, levels_refused, refused_so}

@@ -6,7 +6,7 @@ use Rattle.c_syntax.specs.Chains.{chained}
 use Rattle.c_syntax.proofs.Chains.{Continues}
 use Rattle.c_syntax.specs.Reading.{read_expression, read_binary, read_postfix, read_arguments, infix_step}
 use Rattle.c_syntax.specs.Reading.{suffix_step, value_step}
-use Rattle.c_parse_expressions.specs.Readings.{below}
+use Rattle.c_parse_expressions.specs.ExpressionReadings.{below}
 use Rattle.c_parse_expressions.specs.Values.{values_of, height_of_values}
 use Rattle.c_parse_expressions.proofs.+expression.Given as goal
 

@@ -2,17 +2,18 @@
 
 ghost use Rattle.std.specs.Prelude.{IfOk, List, ℕ, ◌<◌, length};
 ghost use Rattle.c_tree.specs.Erased.{program_of};
-ghost use Rattle.c_program.specs.Answers.{HaveTypedProgram};
+ghost use Rattle.c_front.specs.Answers.{HaveTypedProgram};
 
 use crate::sources::code::Code;
 use crate::sources::machine::{End, Machine};
-use c_accepted::programs_are_ready;
-use c_evaluator::{EvalEnd, eval};
-use c_program::{Refused, typed_program};
+use c_eval::eval;
+use c_eval_state::EvalEnd;
+use c_front::{Refused, typed_program};
 use c_tree::Program;
 use lower::{Graphs, lower};
 use pcc_base::NoMemory;
 use pcc_outside::{MemSink, MemSource, Source};
+use pcc_program::programs_are_ready;
 use std::alloc::Global;
 use std::process::Abort;
 

@@ -2,11 +2,11 @@
 
 ghost use Rattle.std.specs.Prelude.{◌≡◌};
 
-use c_front::parse;
-use c_lexer::{advance, lex};
+use c_check::check;
+use c_lex::{advance, lex};
+use c_parse::parse;
 use c_syntax::RawUnit;
 use c_tree::Program;
-use c_types::check;
 use pcc_base::{Refusal, Span};
 use std::alloc::{AllocError, Global};
 

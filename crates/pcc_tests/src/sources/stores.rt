@@ -2,7 +2,7 @@
 
 use crate::expected::{expect, expect_shown};
 use crate::sources::rows::{Row, read, typed};
-use c_eval::{ArrayName, Place, Store, Value};
+use c_eval_state::{ArrayName, Place, Store, Value};
 use c_tree::{ArrayRef, Function, IntegerType, ValueType};
 use std::alloc::Global;
 use std::process::Abort;

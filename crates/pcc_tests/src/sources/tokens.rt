@@ -3,8 +3,7 @@
 use crate::expected::{expect, expect_refusal};
 use crate::sources::texts::Text;
 use crate::tables::{cells, rows_of, unfolded};
-use c_lexer::lex;
-use c_tokens::{Token, TokenKind};
+use c_lex::{Token, TokenKind, lex};
 use pcc_base::Refusal;
 use std::alloc::Global;
 use std::process::Abort;

@@ -1,6 +1,6 @@
 use Rattle.std.proofs.Common.{◌≡◌, ◌∙◌, ◌+◌, ◌*◌, ℕ, length, ap, arith, subst}
 use Rattle.flow_graph.specs.Graphs.{Flow}
-use Rattle.allocator_boards.specs.PointMaps.{bytes_of_arrays}
+use Rattle.allocator.specs.PointMaps.{bytes_of_arrays}
 use Rattle.allocator.specs.Progress.{IsDoneTo}
 use Rattle.allocator.proofs.Doing.{is-allocation, is-legal}
 use Rattle.allocator.proofs.allocation.allocate.Goals as goal

@@ -1,6 +1,6 @@
 use Rattle.std.proofs.Common.{◌≡◌}
 use Rattle.allocator.specs.Progress.{IsDoneTo}
-use Rattle.allocator_boards.specs.Slots.{slots_given}
+use Rattle.allocator.specs.Slots.{slots_given}
 use Rattle.allocator.proofs.allocation.allocate.Given as goal
 
 abbrev pub invariant-loop-point : goal.invariant-loop-point

@@ -1,5 +1,5 @@
 use Rattle.std.proofs.Common.{◌≡◌, take}
-use Rattle.allocator_boards.specs.PointMaps.{bytes_of_arrays}
+use Rattle.allocator.specs.PointMaps.{bytes_of_arrays}
 use Rattle.allocator.proofs.frame.bytes_of_arrays.Given as goal
 
 abbrev pub invariant-loop-array : goal.invariant-loop-array

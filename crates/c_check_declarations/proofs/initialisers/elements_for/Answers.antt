@@ -2,7 +2,7 @@ use Rattle.std.proofs.Common.{refl, sym, ap, ◌∙◌}
 use Rattle.c_syntax.specs.Declarations.{Single, initialiser_of}
 use Rattle.c_syntax.specs.Expressions.{expr_of}
 use Rattle.c_typing.specs.Initialisers.{elements_for}
-use Rattle.c_check_declarations.specs.Answers.{IsInitialiser}
+use Rattle.c_check_declarations.specs.ItemAnswers.{IsInitialiser}
 use Rattle.c_check_declarations.proofs.Initialised.{no_value_said}
 use Rattle.c_check_declarations.proofs.initialisers.elements_for.Goals as goal
 

@@ -3,11 +3,11 @@ use Rattle.std.proofs.lemmas.Result.{IfOk-weaker}
 use Rattle.c_syntax.specs.Declarations.{value_of}
 use Rattle.c_typing.specs.Checked.{if_fits}
 use Rattle.c_typing.specs.Statements.{bound_item, object_item}
-use Rattle.c_expressions.specs.Said.{IsSaid}
-use Rattle.c_check_declarators.specs.Answers.{IsObject, value_answered}
-use Rattle.c_check_declarators.specs.Views.{object_of}
-use Rattle.c_check_declarators.proofs.Rows.{then_said}
-use Rattle.c_check_declarations.specs.Answers.{AreItem}
+use Rattle.c_check_expressions.specs.Said.{IsSaid}
+use Rattle.c_check_declarations.specs.DeclaratorAnswers.{IsObject, value_answered}
+use Rattle.c_check_declarations.specs.Views.{object_of}
+use Rattle.c_check_declarations.proofs.Rows.{then_said}
+use Rattle.c_check_declarations.specs.ItemAnswers.{AreItem}
 use Rattle.c_check_declarations.proofs.items.allowed_item.Goals as goal
 
 pub returns-in-Fits-clause-said : goal.returns-in-Fits-clause-said

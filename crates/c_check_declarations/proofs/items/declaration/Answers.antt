@@ -1,5 +1,5 @@
 use Rattle.c_syntax.specs.Declarations.{declaration_of}
-use Rattle.c_check_declarators.specs.Views.{position_of}
+use Rattle.c_check_declarations.specs.Views.{position_of}
 use Rattle.c_check_declarations.proofs.Itemised.{declaration_fails}
 use Rattle.c_check_declarations.proofs.items.declaration.Goals as goal
 

@@ -1,7 +1,7 @@
 use Rattle.c_syntax.specs.Declarations.{value_of}
 use Rattle.c_typing.specs.Declarators.{object_allowed}
 use Rattle.c_typing.specs.Statements.{bound_item, object_item, scope_faults}
-use Rattle.c_bindings.specs.Views.{declared_of}
+use Rattle.c_check_names.specs.Views.{declared_of}
 use Rattle.c_check_declarations.proofs.Itemised.{declared_said, declared_scope}
 use Rattle.c_check_declarations.proofs.items.declared_item.Goals as goal
 

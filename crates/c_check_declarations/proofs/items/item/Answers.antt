@@ -3,9 +3,9 @@ use Rattle.c_syntax.specs.Declarations.{item_of}
 use Rattle.c_typing.specs.Declarators.{type_faults}
 use Rattle.c_typing.specs.Statements.{sized_item}
 use Rattle.c_typing.specs.Types.{is_static}
-use Rattle.c_check_declarators.specs.Views.{specified_of}
-use Rattle.c_check_declarators.proofs.Rows.{faults_said}
-use Rattle.c_check_declarations.specs.Answers.{AreItem}
+use Rattle.c_check_declarations.specs.Views.{specified_of}
+use Rattle.c_check_declarations.proofs.Rows.{faults_said}
+use Rattle.c_check_declarations.specs.ItemAnswers.{AreItem}
 use Rattle.c_check_declarations.proofs.items.item.Goals as goal
 
 pub returns-clause-said : goal.returns-clause-said

@@ -2,11 +2,11 @@ use Rattle.std.proofs.Common.{refl, ap, ◌∙◌, map, drop, ◌+◌}
 use Rattle.c_syntax.specs.Declarations.{item_of}
 use Rattle.c_tree.specs.Erased as erased
 use Rattle.c_typing.specs.Statements.{typed_item, typed_items}
-use Rattle.c_check_declarators.specs.Views.{specified_of}
-use Rattle.c_check_declarators.proofs.Lists.{gathered_none, gathered_some}
-use Rattle.c_check_declarations.specs.Answers.{AreItem}
+use Rattle.c_check_declarations.specs.Views.{specified_of}
+use Rattle.c_check_declarations.proofs.Lists.{gathered_none, gathered_some}
+use Rattle.c_check_declarations.specs.ItemAnswers.{AreItem}
 use Rattle.c_check_declarations.proofs.Itemised.{next_scope, next_typed}
-use Rattle.c_check_declarations.proofs.Pushes.{AreItemsOf, push_item}
+use Rattle.c_check_declarations.proofs.PushedItems.{AreItemsOf, push_item}
 use Rattle.c_check_declarations.proofs.items.items.Goals as goal
 
 pub loop-one-init : goal.loop-one-init

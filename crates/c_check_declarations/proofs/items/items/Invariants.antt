@@ -2,9 +2,9 @@
 use Rattle.std.proofs.Common.{◌≡◌, map, drop}
 use Rattle.c_syntax.specs.Declarations.{item_of}
 use Rattle.c_typing.specs.Statements.{typed_items, after_items}
-use Rattle.c_check_declarators.specs.Views.{specified_of}
-use Rattle.c_check_declarators.proofs.Lists.{Gathered}
-use Rattle.c_check_declarations.proofs.Pushes.{AreItemsOf}
+use Rattle.c_check_declarations.specs.Views.{specified_of}
+use Rattle.c_check_declarations.proofs.Lists.{Gathered}
+use Rattle.c_check_declarations.proofs.PushedItems.{AreItemsOf}
 use Rattle.c_check_declarations.proofs.items.items.Given as goal
 
 abbrev pub invariant-loop-one : goal.invariant-loop-one

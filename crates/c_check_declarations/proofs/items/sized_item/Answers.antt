@@ -1,6 +1,6 @@
 use Rattle.std.proofs.lemmas.Result.{IfOk-weaker}
 use Rattle.c_syntax.specs.Declarations.{item_of}
-use Rattle.c_check_declarators.specs.Views.{specified_of}
+use Rattle.c_check_declarations.specs.Views.{specified_of}
 use Rattle.c_check_declarations.proofs.Itemised.{item_fails, item_fails_scope, item_fits, item_fits_scope, on_ok}
 use Rattle.c_check_declarations.proofs.items.sized_item.Goals as goal
 

@@ -1,7 +1,7 @@
 use Rattle.std.proofs.Common.{rules, ◌≡◌, ◌∙◌, [], Bor}
 use Rattle.std.specs.Prelude.{Option, option_map}
-use Rattle.c_bindings.specs.Views.{meaning_of}
-use Rattle.c_bindings.specs.declared.meaning.Meaning.{Meaning as Shown}
+use Rattle.c_check_names.specs.Views.{meaning_of}
+use Rattle.c_check_names.specs.declared.meaning.Meaning.{Meaning as Shown}
 use Rattle.c_typing.specs.Expressions.{called, not_called}
 use Rattle.c_typing.specs.Names.{Meaning}
 use Rattle.c_check_expressions.specs.Callees.{parameters_of}

@@ -5,9 +5,9 @@ use Rattle.c_tree.specs.declared.types.ValueType.{ValueType}
 use Rattle.c_typing.specs.Checked.{pair}
 use Rattle.c_typing.specs.Expressions.{first_word, type_name}
 use Rattle.c_typing.specs.Types.{InCast, specified}
-use Rattle.c_operands.specs.Judged.{IsOperandOf}
-use Rattle.c_expressions.proofs.Answered.{grown_quiet, pair_said}
-use Rattle.c_expressions.proofs.TypeNames.{quiet_type_name}
+use Rattle.c_check_expressions.specs.Judged.{IsOperandOf}
+use Rattle.c_check_expressions.proofs.Answered.{grown_quiet, pair_said}
+use Rattle.c_check_expressions.proofs.TypeNames.{quiet_type_name}
 use Rattle.c_check_expressions.proofs.nodes.cast_to.Goals as goal
 
 pub returns : goal.returns

@@ -1,7 +1,7 @@
 use Rattle.c_typing.specs.Checked.{pair}
-use Rattle.c_operands.specs.Judged.{IsOperandOf}
-use Rattle.c_expressions.specs.Said.{AreOperandsOf}
-use Rattle.c_expressions.proofs.Answered.{pair_said}
+use Rattle.c_check_expressions.specs.Judged.{IsOperandOf}
+use Rattle.c_check_expressions.specs.Said.{AreOperandsOf}
+use Rattle.c_check_expressions.proofs.Answered.{pair_said}
 use Rattle.c_check_expressions.proofs.nodes.three_parts.Goals as goal
 
 pub returns : goal.returns

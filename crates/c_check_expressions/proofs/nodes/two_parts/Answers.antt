@@ -1,5 +1,5 @@
-use Rattle.c_operands.specs.Judged.{IsOperandOf}
-use Rattle.c_expressions.proofs.Answered.{pair_said}
+use Rattle.c_check_expressions.specs.Judged.{IsOperandOf}
+use Rattle.c_check_expressions.proofs.Answered.{pair_said}
 use Rattle.c_check_expressions.proofs.nodes.two_parts.Goals as goal
 
 pub returns : goal.returns

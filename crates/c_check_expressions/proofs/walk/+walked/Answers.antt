@@ -13,11 +13,11 @@ use Rattle.c_tree.specs.declared.types.IntegerType.TheVariants.{Int}
 use Rattle.c_tree.specs.Program as tree
 use Rattle.c_typing.specs.Checked.{Checked, Note, pair, fits}
 use Rattle.c_typing.specs.Expressions.{arguments_for, called, given, have_types, typed_expression}
-use Rattle.c_expressions.specs.Arguments.{AreArguments, AreTrees, for_parameter, given_of, one_behind}
-use Rattle.c_operands.specs.Judged.{IsOperandOf}
-use Rattle.c_expressions.specs.Said.{IsSaid}
-use Rattle.c_expressions.proofs.Answered.{operands_hold, second_holds, three_hold}
-use Rattle.c_expressions.proofs.Gathering.{Gathered, gathered_none, gathered_more, gathered_all, given_all}
+use Rattle.c_check_expressions.specs.Arguments.{AreArguments, AreTrees, for_parameter, given_of, one_behind}
+use Rattle.c_check_expressions.specs.Judged.{IsOperandOf}
+use Rattle.c_check_expressions.specs.Said.{IsSaid}
+use Rattle.c_check_expressions.proofs.Answered.{operands_hold, second_holds, three_hold}
+use Rattle.c_check_expressions.proofs.Gathering.{Gathered, gathered_none, gathered_more, gathered_all, given_all}
 use Rattle.c_check_expressions.proofs.NextGiven.{next_given, none_given}
 use Rattle.c_check_expressions.proofs.walk.+walked.Goals as goal
 

@@ -1,7 +1,7 @@
 -- What is known behind so many arguments.
 use Rattle.std.proofs.Common.{map}
-use Rattle.c_expressions.specs.Arguments.{given_of}
-use Rattle.c_expressions.proofs.Gathering.{Gathered}
+use Rattle.c_check_expressions.specs.Arguments.{given_of}
+use Rattle.c_check_expressions.proofs.Gathering.{Gathered}
 use Rattle.c_check_expressions.proofs.walk.+walked.Given as goal
 
 abbrev pub invariant-each_argument-arguments : goal.invariant-each_argument-arguments

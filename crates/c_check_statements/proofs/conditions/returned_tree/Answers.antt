@@ -1,9 +1,9 @@
 use Rattle.std.proofs.Common.{subst}
 use Rattle.c_typing.specs.Statements.{returned}
-use Rattle.c_expressions.specs.Said.{IsSaid}
+use Rattle.c_check_expressions.specs.Said.{IsSaid}
 use Rattle.c_check_expressions.specs.Maybe.{IsOperandIfAny}
-use Rattle.c_check_declarations.specs.Answers.{IsTreeIfAny}
-use Rattle.c_check_declarators.proofs.Rows.{then_said}
+use Rattle.c_check_declarations.specs.ItemAnswers.{IsTreeIfAny}
+use Rattle.c_check_declarations.proofs.Rows.{then_said}
 use Rattle.c_check_statements.proofs.conditions.returned_tree.Goals as goal
 
 pub returns-in-Fits : goal.returns-in-Fits

@@ -1,8 +1,8 @@
 use Rattle.std.proofs.Common.{Option}
 use Rattle.c_tree.specs.Program.{Expression}
 use Rattle.c_typing.specs.Statements.{returned}
-use Rattle.c_expressions.specs.Said.{IsSaid}
-use Rattle.c_check_declarations.specs.Answers.{IsTreeIfAny}
+use Rattle.c_check_expressions.specs.Said.{IsSaid}
+use Rattle.c_check_declarations.specs.ItemAnswers.{IsTreeIfAny}
 use Rattle.c_check_statements.proofs.Returning.{with_none, with_some}
 use Rattle.c_check_statements.proofs.conditions.returned_value.Goals as goal
 

@@ -3,8 +3,8 @@ use Rattle.c_tree.specs.Erased.{boxed_of}
 use Rattle.c_tree.specs.Program.{value_type}
 use Rattle.c_typing.specs.Checked.{if_fits}
 use Rattle.c_typing.specs.Rows.{selected}
-use Rattle.c_operands.specs.Judged.{IsOperandOf}
-use Rattle.c_expressions.proofs.Answered.{row_ok}
+use Rattle.c_check_expressions.specs.Judged.{IsOperandOf}
+use Rattle.c_check_expressions.proofs.Answered.{row_ok}
 use Rattle.c_check_statements.proofs.QuietRows.{quiet_selected}
 use Rattle.c_check_statements.proofs.conditions.selected_tree.Goals as goal
 

@@ -1,6 +1,6 @@
 use Rattle.std.proofs.Common.{subst}
-use Rattle.c_expressions.specs.Said.{IsSaid}
-use Rattle.c_check_declarations.specs.Answers.{IsTreeIfAny}
+use Rattle.c_check_expressions.specs.Said.{IsSaid}
+use Rattle.c_check_declarations.specs.ItemAnswers.{IsTreeIfAny}
 use Rattle.c_check_statements.proofs.Returning.{returned_integer, returned_pointer}
 use Rattle.c_check_statements.proofs.conditions.something_returned.Goals as goal
 

@@ -2,8 +2,8 @@ use Rattle.std.proofs.Common.{Ok}
 use Rattle.c_tree.specs.Erased.{boxed_of}
 use Rattle.c_typing.specs.Checked.{if_fits}
 use Rattle.c_typing.specs.Rows.{tested}
-use Rattle.c_operands.specs.Judged.{IsOperandOf}
-use Rattle.c_expressions.proofs.Answered.{row_ok}
+use Rattle.c_check_expressions.specs.Judged.{IsOperandOf}
+use Rattle.c_check_expressions.proofs.Answered.{row_ok}
 use Rattle.c_check_statements.proofs.QuietRows.{quiet_tested}
 use Rattle.c_check_statements.proofs.conditions.tested_tree.Goals as goal
 

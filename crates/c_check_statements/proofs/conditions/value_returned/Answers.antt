@@ -1,9 +1,9 @@
 use Rattle.std.proofs.Common.{subst}
 use Rattle.c_typing.specs.Rows.{assigned}
-use Rattle.c_operands.specs.Judged.{IsJudged}
-use Rattle.c_operands.proofs.Together.{operand_stands}
-use Rattle.c_expressions.proofs.Answered.{grown_quiet}
-use Rattle.c_expressions.proofs.Quiet.{quiet_assigned}
+use Rattle.c_check_expressions.specs.Judged.{IsJudged}
+use Rattle.c_check_expressions.proofs.Together.{operand_stands}
+use Rattle.c_check_expressions.proofs.Answered.{grown_quiet}
+use Rattle.c_check_expressions.proofs.Quiet.{quiet_assigned}
 use Rattle.c_check_statements.proofs.conditions.value_returned.Goals as goal
 
 pub returns : goal.returns

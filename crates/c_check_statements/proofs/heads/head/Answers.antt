@@ -1,5 +1,5 @@
-use Rattle.c_expressions.proofs.Answered.{pair_said}
-use Rattle.c_check_declarations.specs.Answers.{IsTreeIfAny}
+use Rattle.c_check_expressions.proofs.Answered.{pair_said}
+use Rattle.c_check_declarations.specs.ItemAnswers.{IsTreeIfAny}
 use Rattle.c_check_statements.specs.Answers.{AreStart}
 use Rattle.c_check_statements.proofs.heads.head.Goals as goal
 

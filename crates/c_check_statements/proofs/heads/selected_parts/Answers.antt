@@ -1,6 +1,6 @@
-use Rattle.c_expressions.proofs.Answered.{pair_said}
-use Rattle.c_check_labels.specs.Values.{IsTree}
-use Rattle.c_check_labels.specs.Labels.{AreLabels}
+use Rattle.c_check_expressions.proofs.Answered.{pair_said}
+use Rattle.c_check_declarations.specs.InitialValues.{IsTree}
+use Rattle.c_check_statements.specs.Labels.{AreLabels}
 use Rattle.c_check_statements.proofs.heads.selected_parts.Goals as goal
 
 pub returns : goal.returns

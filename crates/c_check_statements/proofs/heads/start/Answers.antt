@@ -1,5 +1,5 @@
-use Rattle.c_expressions.proofs.Answered.{pair_said}
-use Rattle.c_check_declarations.specs.Answers.{IsTreeIfAny}
+use Rattle.c_check_expressions.proofs.Answered.{pair_said}
+use Rattle.c_check_declarations.specs.ItemAnswers.{IsTreeIfAny}
 use Rattle.c_check_statements.specs.Answers.{IsFirst}
 use Rattle.c_check_statements.proofs.heads.start.Goals as goal
 

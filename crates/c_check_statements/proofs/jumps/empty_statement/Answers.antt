@@ -3,7 +3,7 @@ use Rattle.std.proofs.lemmas.Result.{IfOk-weaker}
 use Rattle.c_tree.specs.Program as tree
 use Rattle.c_typing.specs.Checked.{fits}
 use Rattle.c_typing.specs.Statements.{one}
-use Rattle.c_expressions.specs.Said.{IsSaid}
+use Rattle.c_check_expressions.specs.Said.{IsSaid}
 use Rattle.c_check_statements.specs.Answers.{AreListed}
 use Rattle.c_check_statements.proofs.jumps.empty_statement.Goals as goal
 

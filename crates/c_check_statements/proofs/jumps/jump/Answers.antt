@@ -2,7 +2,7 @@ use Rattle.std.proofs.Common.{sym, subst}
 use Rattle.std.proofs.lemmas.Result.{IfOk-weaker}
 use Rattle.c_tree.specs.Erased.{statement_of}
 use Rattle.c_typing.specs.Statements.{jump, one}
-use Rattle.c_expressions.specs.Said.{IsSaid}
+use Rattle.c_check_expressions.specs.Said.{IsSaid}
 use Rattle.c_check_statements.specs.Answers.{AreListed}
 use Rattle.c_check_statements.proofs.jumps.jump.Goals as goal
 

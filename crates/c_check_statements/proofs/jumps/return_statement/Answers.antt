@@ -5,7 +5,7 @@ use Rattle.c_tree.specs.Program as tree
 use Rattle.c_typing.specs.Checked.{fits, if_fits}
 use Rattle.c_typing.specs.Expressions.{typed_if_any}
 use Rattle.c_typing.specs.Statements.{one, returned}
-use Rattle.c_expressions.specs.Said.{IsSaid}
+use Rattle.c_check_expressions.specs.Said.{IsSaid}
 use Rattle.c_check_statements.specs.Answers.{AreListed}
 use Rattle.c_check_statements.proofs.Chains.{then_then}
 use Rattle.c_check_statements.proofs.jumps.return_statement.Goals as goal

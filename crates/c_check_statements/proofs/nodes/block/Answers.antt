@@ -3,7 +3,7 @@ use Rattle.std.proofs.lemmas.Result.{IfOk-weaker}
 use Rattle.c_tree.specs.Erased.{statement_of}
 use Rattle.c_tree.specs.Program as tree
 use Rattle.c_tree.specs.Program.{Statements}
-use Rattle.c_expressions.specs.Said.{IsSaid}
+use Rattle.c_check_expressions.specs.Said.{IsSaid}
 use Rattle.c_check_statements.specs.Answers.{AreStatements}
 use Rattle.c_check_statements.proofs.Ones.{one_said}
 use Rattle.c_check_statements.proofs.nodes.block.Goals as goal

@@ -1,5 +1,5 @@
 use Rattle.c_typing.specs.Checked.{pair}
-use Rattle.c_expressions.proofs.Answered.{pair_said}
+use Rattle.c_check_expressions.proofs.Answered.{pair_said}
 use Rattle.c_check_statements.specs.Answers.{AreSelected, AreStatements}
 use Rattle.c_check_statements.proofs.nodes.cases.Goals as goal
 

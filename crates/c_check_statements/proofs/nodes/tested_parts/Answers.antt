@@ -1,6 +1,6 @@
 use Rattle.c_typing.specs.Statements.{alone}
-use Rattle.c_expressions.proofs.Answered.{pair_said}
-use Rattle.c_check_labels.specs.Values.{IsTree}
+use Rattle.c_check_expressions.proofs.Answered.{pair_said}
+use Rattle.c_check_declarations.specs.InitialValues.{IsTree}
 use Rattle.c_check_statements.specs.Answers.{IsStatement}
 use Rattle.c_check_statements.proofs.nodes.tested_parts.Goals as goal
 

@@ -1,6 +1,6 @@
 use Rattle.c_typing.specs.Checked.{pair}
 use Rattle.c_typing.specs.Statements.{alone}
-use Rattle.c_expressions.proofs.Answered.{pair_said}
+use Rattle.c_check_expressions.proofs.Answered.{pair_said}
 use Rattle.c_check_statements.specs.Answers.{AreHead, IsStatement}
 use Rattle.c_check_statements.proofs.nodes.turns.Goals as goal
 

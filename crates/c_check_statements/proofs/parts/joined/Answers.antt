@@ -1,8 +1,8 @@
 use Rattle.std.proofs.Common.{subst, ◌++◌}
 use Rattle.c_typing.specs.Checked.{fits, pair}
-use Rattle.c_expressions.specs.Said.{IsSaid}
-use Rattle.c_expressions.proofs.Answered.{pair_said}
-use Rattle.c_check_declarators.proofs.Rows.{fails_said}
+use Rattle.c_check_expressions.specs.Said.{IsSaid}
+use Rattle.c_check_expressions.proofs.Answered.{pair_said}
+use Rattle.c_check_declarations.proofs.Rows.{fails_said}
 use Rattle.c_check_statements.specs.Answers.{AreListed}
 use Rattle.c_check_statements.proofs.parts.joined.Goals as goal
 

@@ -19,7 +19,7 @@ use Rattle.c_typing.specs.Statements.{after_declaration, after_statement, alone,
 use Rattle.c_typing.specs.Statements.{first_part, for_loop, given_labels, in_loop, in_switch, one, typed_labels}
 use Rattle.c_typing.specs.Statements.{typed_statement, typed_statements}
 use Rattle.c_typing.specs.Types.{InFor}
-use Rattle.c_expressions.specs.Said.{IsSaid}
+use Rattle.c_check_expressions.specs.Said.{IsSaid}
 use Rattle.c_check_declarations.proofs.Itemised.{on_ok}
 use Rattle.c_check_statements.specs.Answers.{AreListed, AreStatements}
 use Rattle.c_check_statements.specs.Views.{around_of}

@@ -3,7 +3,7 @@ use Rattle.std.specs.List.{AllByRecursion}
 use Rattle.std.proofs.Common.{rules, ◌≡◌, ℕ, List, ◌∷◌, Vec, Global, length, map, ap}
 use Rattle.std.proofs.Common.{◌∙◌, subst, arith}
 use Rattle.std.proofs.lemmas.List.{length-map, map-append}
-use Rattle.c_tokens.specs.declared.token.Token.{Token}
+use Rattle.c_lex.specs.declared.token.Token.{Token}
 use Rattle.c_front.specs.declared.lexed.Lexed.{Lexed}
 use Rattle.c_front.specs.Refusals.{AreUnread}
 use Rattle.c_front.proofs.Reading.{lexed_all, lexed_on, unread_on}

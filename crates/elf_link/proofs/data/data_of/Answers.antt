@@ -2,8 +2,8 @@
 use Rattle.std.specs.Prelude.{flat_map}
 use Rattle.std.proofs.Common.{arith, ap, ◌++◌, map, List, ℕ}
 use Rattle.ia32_insn.specs.Items.{object_bytes}
-use Rattle.elf_addresses.specs.Parts.{object_of}
-use Rattle.elf_addresses.proofs.Holding.{held_at}
+use Rattle.elf_link.specs.Parts.{object_of}
+use Rattle.elf_link.proofs.Holding.{held_at}
 use Rattle.elf_link.proofs.Placing.{depth_put}
 use Rattle.elf_link.proofs.data.data_of.Goals as goal
 

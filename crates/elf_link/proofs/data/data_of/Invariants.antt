@@ -2,7 +2,7 @@
 use Rattle.std.proofs.Common.{◌≡◌, ◌++◌, drop, map}
 use Rattle.std.specs.Prelude.{flat_map}
 use Rattle.ia32_insn.specs.Items.{data_bytes, object_bytes}
-use Rattle.elf_addresses.specs.Parts.{object_of}
+use Rattle.elf_link.specs.Parts.{object_of}
 use Rattle.elf_link.proofs.data.data_of.Given as goal
 
 abbrev pub invariant-loop-object : goal.invariant-loop-object

@@ -1,7 +1,7 @@
 -- The header, the elements and the padding.
 use Rattle.std.proofs.Common.{ap, ℕ, arith, ◌-◌, ◌*◌, ◌+◌}
 use Rattle.std.specs.Prelude.{vec_len}
-use Rattle.elf_addresses.specs.Parts.{object_of}
+use Rattle.elf_link.specs.Parts.{object_of}
 use Rattle.elf_link.proofs.Placing.{object_put}
 use Rattle.elf_link.proofs.data.put_object.Goals as goal
 

@@ -1,6 +1,6 @@
 -- The image is that of the functions.
 use Rattle.std.proofs.Common.{refl, map, ◌∙◌}
-use Rattle.elf_addresses.specs.Parts.{object_of}
+use Rattle.elf_link.specs.Parts.{object_of}
 use Rattle.elf_link.proofs.Finishing.{linked_is, each_fits, length-linked}
 use Rattle.elf_link.proofs.LaidOut.{laid_out}
 use Rattle.elf_link.proofs.linking.link.Goals as goal

@@ -4,9 +4,9 @@ use Rattle.std.specs.declared.alloc.Global.{Global}
 use Rattle.std.proofs.Common.{◌≡◌, ◌+◌, ℕ, List, arith, ap, ◌∙◌, sym, subst, Some, drop, length, map}
 use Rattle.std.specs.Prelude.{slice_set}
 use Rattle.std.proofs.lemmas.List.{length-map, map-set}
-use Rattle.elf_addresses.specs.Parts.{function_of, order_of, sections_size}
+use Rattle.elf_link.specs.Parts.{function_of, order_of, sections_size}
 use Rattle.elf_link.specs.Laid.{points_from}
-use Rattle.elf_addresses.proofs.Holding.{read_at, left_at}
+use Rattle.elf_link.proofs.Holding.{read_at, left_at}
 use Rattle.elf_link.proofs.Numbered.{IsFilled, filled-more, filled-all, next-of, number-at, length-put}
 use Rattle.elf_link.proofs.points.points_of.Goals as goal
 

@@ -1,6 +1,6 @@
 -- The points so far, and those of the sections that are left.
 use Rattle.std.proofs.Common.{◌≡◌, ◌+◌, drop, length, map}
-use Rattle.elf_addresses.specs.Parts.{order_of, sections_size}
+use Rattle.elf_link.specs.Parts.{order_of, sections_size}
 use Rattle.elf_link.specs.Laid.{points_from}
 use Rattle.elf_link.proofs.Numbered.{IsFilled}
 use Rattle.elf_link.proofs.points.points_of.Given as goal

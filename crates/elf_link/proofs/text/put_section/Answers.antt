@@ -2,7 +2,7 @@
 use Rattle.std.specs.Prelude.{false}
 use Rattle.std.proofs.Common.{arith}
 use Rattle.ia32_asm.specs.declared.section.Target.TheVariants as target
-use Rattle.elf_addresses.specs.Symbols.{symbols_of}
+use Rattle.elf_link.specs.Symbols.{symbols_of}
 use Rattle.elf_link.proofs.Placing.{word_room, word_more}
 use Rattle.elf_link.proofs.text.put_section.Goals as goal
 

@@ -1,7 +1,7 @@
 -- The bytes so far, and those of the sections that are left.
 use Rattle.std.proofs.Common.{◌≡◌, ◌+◌, ◌++◌, drop}
-use Rattle.elf_addresses.specs.Parts.{sections_size}
-use Rattle.elf_addresses.specs.Symbols.{symbols_of}
+use Rattle.elf_link.specs.Parts.{sections_size}
+use Rattle.elf_link.specs.Symbols.{symbols_of}
 use Rattle.elf_link.specs.Laid.{code_from}
 use Rattle.elf_link.proofs.text.put_sections.Given as goal
 

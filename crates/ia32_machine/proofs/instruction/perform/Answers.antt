@@ -1,7 +1,7 @@
 use Rattle.std.proofs.Common.{rules, ◌≡◌, ◌≢◌, true, false, List, ℕ, Ok, Err, refl, sym, subst}
 use Rattle.std.specs.Prelude.{Result}
 use Rattle.ia32_insn.specs.declared.insn.Insn.TheVariants as insn
-use Rattle.ia32_processor.proofs.Kept.{instruction-keeps, keeps-same}
+use Rattle.ia32_machine.proofs.Kept.{instruction-keeps, keeps-same}
 use Rattle.ia32_machine.specs.First.{lent}
 use Rattle.ia32_machine.specs.Lending.{IsPutOn}
 use Rattle.ia32_machine.specs.declared.ends.MachineEnd.{MachineEnd}

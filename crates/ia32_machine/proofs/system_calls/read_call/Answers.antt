@@ -1,8 +1,8 @@
 use Rattle.std.proofs.Common.{◌≡◌, ◌<◌, true, false, ◌∷◌, sym, ◌∙◌, arith}
-use Rattle.ia32_regs.specs.declared.names.Reg32.TheVariants.{Edx}
+use Rattle.ia32_insn.specs.declared.register_names.Reg32.TheVariants.{Edx}
 use Rattle.ia32_insn.specs.State.{State}
 use Rattle.ia32_insn.specs.Meaning.{word_of}
-use Rattle.ia32_processor.proofs.Kept.{keeps-same}
+use Rattle.ia32_machine.proofs.Kept.{keeps-same}
 use Rattle.ia32_machine.proofs.Storing.{one_byte, byte_keeps}
 use Rattle.ia32_machine.proofs.Calls.{not_is, may_so, read_none, read_denied, read_end, read_byte, read_fault}
 use Rattle.ia32_machine.proofs.system_calls.read_call.Goals as goal

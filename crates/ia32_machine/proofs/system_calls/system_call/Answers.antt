@@ -1,8 +1,8 @@
 use Rattle.std.proofs.Common.{◌≡◌, ◌≢◌, List, ℕ, refl, sym, ◌∙◌, subst, arith}
-use Rattle.ia32_regs.specs.declared.names.Reg32.TheVariants.{Eax, Ebx}
+use Rattle.ia32_insn.specs.declared.register_names.Reg32.TheVariants.{Eax, Ebx}
 use Rattle.ia32_insn.specs.State.{State}
 use Rattle.ia32_insn.specs.Meaning.{Moved, word_of}
-use Rattle.ia32_processor.proofs.Kept.{keeps-same}
+use Rattle.ia32_machine.proofs.Kept.{keeps-same}
 use Rattle.ia32_machine.specs.First.{lent}
 use Rattle.ia32_machine.specs.Lending.{IsPutOn, PutsNothing}
 use Rattle.ia32_machine.specs.Performs.{PartTold, call_moved}

@@ -1,5 +1,5 @@
 use Rattle.std.proofs.Common.{◌<◌, sym, ◌∙◌, ap, Ok, arith}
-use Rattle.ia32_regs.specs.declared.names.Reg32.TheVariants.{Eax}
+use Rattle.ia32_insn.specs.declared.register_names.Reg32.TheVariants.{Eax}
 use Rattle.ia32_insn.specs.Meaning.{with_word}
 use Rattle.ia32_machine.proofs.Storing.{byte_stored}
 use Rattle.ia32_machine.proofs.system_calls.take_byte.Goals as goal

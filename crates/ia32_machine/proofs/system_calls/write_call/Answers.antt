@@ -1,8 +1,8 @@
 use Rattle.std.proofs.Common.{Some, None, refl, sym, ◌∙◌}
-use Rattle.ia32_regs.specs.declared.names.Reg32.TheVariants.{Edx}
+use Rattle.ia32_insn.specs.declared.register_names.Reg32.TheVariants.{Edx}
 use Rattle.ia32_insn.specs.State.{State}
 use Rattle.ia32_insn.specs.Meaning.{word_of}
-use Rattle.ia32_processor.proofs.Kept.{keeps-same}
+use Rattle.ia32_machine.proofs.Kept.{keeps-same}
 use Rattle.ia32_machine.proofs.Calls.{not_is, bytes_so, write_none, write_denied, write_done, write_failed}
 use Rattle.ia32_machine.proofs.Calls.{write_wanted, some_bytes}
 use Rattle.ia32_machine.proofs.Performs.{none_put, unchanged_put, part_put}

@@ -1,7 +1,7 @@
 use Rattle.std.proofs.Common.{rules, ◌≡◌}
 use Rattle.c_tree.specs.Erased.{statements_of}
 use Rattle.lower.proofs.Bodies.{function-whole}
-use Rattle.lower_pieces.specs.Sites.{context_of}
+use Rattle.lower_builder.specs.Sites.{context_of}
 use Rattle.lower.proofs.functions.add_function.Goals as goal
 
 pub returns : goal.returns

@@ -1,5 +1,5 @@
 use Rattle.std.proofs.Common.{rules}
-use Rattle.lower_pieces.specs.Sites.{context_of}
+use Rattle.lower_builder.specs.Sites.{context_of}
 use Rattle.lower.proofs.Resting.{text-array}
 use Rattle.lower.proofs.items.array.Goals as goal
 

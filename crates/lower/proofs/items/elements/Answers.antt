@@ -1,6 +1,6 @@
 use Rattle.std.proofs.Common.{refl}
 use Rattle.c_tree.specs.Erased.{expression_of}
-use Rattle.lower_pieces.specs.Sites.{context_of}
+use Rattle.lower_builder.specs.Sites.{context_of}
 use Rattle.lower.proofs.Resting.{elements_more, elements_none}
 use Rattle.lower.proofs.items.elements.Goals as goal
 

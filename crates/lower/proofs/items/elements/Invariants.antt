@@ -2,7 +2,7 @@
 use Rattle.std.proofs.Common.{◌-◌, map, drop, length}
 use Rattle.c_tree.specs.Erased.{expression_of}
 use Rattle.lower_lines.specs.Statements.{elements_blocks, elements_lines}
-use Rattle.lower_pieces.specs.Sites.{context_of}
+use Rattle.lower_builder.specs.Sites.{context_of}
 use Rattle.lower.proofs.Resting.{Rests}
 use Rattle.lower.proofs.items.elements.Given as goal
 

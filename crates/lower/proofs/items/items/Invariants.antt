@@ -2,7 +2,7 @@
 use Rattle.std.proofs.Common.{◌-◌, map, drop, length}
 use Rattle.c_tree.specs.Erased.{item_of}
 use Rattle.lower_lines.specs.Statements.{items_blocks, items_lines}
-use Rattle.lower_pieces.specs.Sites.{context_of}
+use Rattle.lower_builder.specs.Sites.{context_of}
 use Rattle.lower.proofs.Resting.{Rests}
 use Rattle.lower.proofs.items.items.Given as goal
 

@@ -1,5 +1,5 @@
 use Rattle.std.proofs.Common.{◌-◌, ◌≡◌, ◌<◌, ◌≤◌, ℕ, length}
-use Rattle.lower_loops.specs.Starts.{starts_at}
+use Rattle.lower.specs.StartedBlocks.{starts_at}
 use Rattle.lower_lines.specs.Statements.{labelled_before, labelled_from}
 use Rattle.lower.proofs.labels.starts_of.Given as goal
 

@@ -1,6 +1,6 @@
 use Rattle.std.proofs.Common.{rules, ◌≡◌, ◌∙◌}
 use Rattle.c_tree.specs.Erased.{function_of, program_of}
-use Rattle.lower_pieces.specs.Sites.{context_of}
+use Rattle.lower_builder.specs.Sites.{context_of}
 use Rattle.lower.proofs.Closed.{arrays-of, closed-of, fit-of}
 use Rattle.lower.proofs.lowered.graph.Goals as goal
 

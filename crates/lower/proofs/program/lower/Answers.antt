@@ -8,8 +8,8 @@ use Rattle.lower.specs.Graphs.{graphs_of}
 use Rattle.lower_lines.specs.Lowering.{AreSmall, HasObjects, HaveMarks, HaveShapes, KeepsOutcome, MarksOnce}
 use Rattle.lower_lines.specs.Programs.{lowered}
 use Rattle.lower_lines.specs.Shown.{variables_shown}
-use Rattle.lower_programs.specs.Declared.{IsDeclaredFirst}
-use Rattle.lower_programs.specs.SettledLaws.{HaveLiveness, NothingLiveFirst}
+use Rattle.lower_laws.specs.Declared.{IsDeclaredFirst}
+use Rattle.lower_laws.specs.SettledLaws.{HaveLiveness, NothingLiveFirst}
 use Rattle.lower.proofs.program.lower.Goals as goal
 
 pub returns-clause-outcome : goal.returns-clause-outcome

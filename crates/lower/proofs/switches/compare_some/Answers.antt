@@ -1,5 +1,5 @@
 use Rattle.std.proofs.Common.{arith}
-use Rattle.lower_pieces.specs.Sites.{context_of}
+use Rattle.lower_builder.specs.Sites.{context_of}
 use Rattle.lower.proofs.Comparisons.{compare-last, compare-more}
 use Rattle.lower.proofs.switches.compare_some.Goals as goal
 

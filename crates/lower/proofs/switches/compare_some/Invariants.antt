@@ -2,7 +2,7 @@
 use Rattle.std.proofs.Common.{◌-◌, ◌<◌, drop, length}
 use Rattle.lower.proofs.Resting.{Rests}
 use Rattle.lower_lines.specs.Statements.{comparing}
-use Rattle.lower_pieces.specs.Sites.{context_of}
+use Rattle.lower_builder.specs.Sites.{context_of}
 use Rattle.lower.proofs.switches.compare_some.Given as goal
 
 abbrev pub invariant-cases : goal.invariant-cases

@@ -5,8 +5,8 @@ use Rattle.lower_lines.specs.Expressions.{part_of}
 use Rattle.lower_lines.specs.Parts.{operand}
 use Rattle.lower_lines.specs.Statements.{comparing_blocks}
 use Rattle.lower_lines.specs.Variables.{Spot}
-use Rattle.lower_pieces.specs.Sites.{context_of}
-use Rattle.lower_rows.specs.Views.{after_of}
+use Rattle.lower_builder.specs.Sites.{context_of}
+use Rattle.lower_expressions.specs.Views.{after_of}
 use Rattle.lower.proofs.switches.open_switch.Goals as goal
 
 pub returns-clause-adds : goal.returns-clause-adds

@@ -7,13 +7,13 @@ use Rattle.c_tree.specs.declared.statement.Statement.{Statement}
 use Rattle.c_tree.specs.declared.statement.Statement.TheViews.{the_lemmas}
 use Rattle.c_tree.proofs.Rows.{statements_are}
 use Rattle.lower.specs.Walks.{AddsIf}
-use Rattle.lower_loops.specs.Starts.{starts_at}
+use Rattle.lower.specs.StartedBlocks.{starts_at}
 use Rattle.lower.proofs.Arms.{do-arm, for-arm, if-none-arm, if-some-arm, since, while-arm}
 use Rattle.lower.proofs.Switched.{switch-none, switch-some}
 use Rattle.lower.proofs.Ordered.{row-first, row-more, row-none}
 use Rattle.lower_lines.specs.Statements.{run_of}
-use Rattle.lower_pieces.specs.Sites.{context_of}
-use Rattle.lower_rows.specs.Views.{after_of, exits_of}
+use Rattle.lower_builder.specs.Sites.{context_of}
+use Rattle.lower_expressions.specs.Views.{after_of, exits_of}
 use Rattle.lower.proofs.walk.+statement.Goals as goal
 
 pub sequence-body-init : goal.sequence-body-init

@@ -1,10 +1,10 @@
 -- The lines of the statements from here on.
 use Rattle.std.proofs.Common.{◌-◌, drop, length}
-use Rattle.lower_loops.specs.Starts.{starts_at}
+use Rattle.lower.specs.StartedBlocks.{starts_at}
 use Rattle.lower.proofs.Ordered.{RestsIf, rest_blocks, rest_lines, runs}
 use Rattle.lower_lines.specs.Statements.{sequence_blocks, sequence_lines}
-use Rattle.lower_pieces.specs.Sites.{context_of}
-use Rattle.lower_rows.specs.Views.{after_of, exits_of}
+use Rattle.lower_builder.specs.Sites.{context_of}
+use Rattle.lower_expressions.specs.Views.{after_of, exits_of}
 use Rattle.lower.proofs.walk.+statement.Given as goal
 
 abbrev pub invariant-sequence-body : goal.invariant-sequence-body

@@ -8,8 +8,8 @@ use Rattle.ia32_emit.specs.Locations.{slots_of}
 use Rattle.lower_lines.specs.Shown.{local_widths}
 use Rattle.map_lines.proofs.Blocks.{placed-at}
 use Rattle.map_lines.specs.Shown.{body_declares, points_at, variables_at}
-use Rattle.pcc_listing.specs.Lines.{point_lines}
-use Rattle.pcc_listing.specs.Views.{line_of}
+use Rattle.map_text.specs.Lines.{point_lines}
+use Rattle.map_text.specs.Views.{line_of}
 use Rattle.map_lines.specs.ProgramMap.{points_over}
 use Rattle.map_lines.proofs.Counting.{flags-many}
 use Rattle.map_lines.proofs.Lines.{points-put}

@@ -1,8 +1,8 @@
 use Rattle.std.proofs.Common.{◌≡◌, ◌++◌, drop, flat_map, map, slice_index}
 use Rattle.c_tree.specs.Erased.{function_of}
 use Rattle.ia32_emit.specs.Locations.{slots_of}
-use Rattle.pcc_listing.specs.Lines.{point_lines}
-use Rattle.pcc_listing.specs.Views.{line_of}
+use Rattle.map_text.specs.Lines.{point_lines}
+use Rattle.map_text.specs.Views.{line_of}
 use Rattle.map_lines.specs.ProgramMap.{points_over}
 use Rattle.map_lines.proofs.points.push_points.Given as goal
 

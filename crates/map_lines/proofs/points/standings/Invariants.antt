@@ -1,5 +1,5 @@
 use Rattle.std.proofs.Common.{◌≡◌, ◌++◌, drop, map}
-use Rattle.pcc_listing.specs.Views.{standing_of}
+use Rattle.map_text.specs.Views.{standing_of}
 use Rattle.ia32_emit.specs.Locations.{slots_of}
 use Rattle.map_lines.specs.ProgramMap.{standings_from}
 use Rattle.map_lines.proofs.points.standings.Given as goal

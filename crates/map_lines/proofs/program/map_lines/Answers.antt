@@ -7,9 +7,9 @@ use Rattle.c_tree.specs.declared.program.Function.{Function}
 use Rattle.c_tree.specs.declared.program.StaticObject.{StaticObject}
 use Rattle.c_tree.specs.Erased.{function_of, program_of}
 use Rattle.flow_graph.specs.Graphs.{Flow}
-use Rattle.ia32_frames.specs.declared.frame.Frame.{Frame}
-use Rattle.pcc_listing.specs.Lines.{lines_of}
-use Rattle.pcc_listing.specs.Views.{line_of}
+use Rattle.ia32_select.specs.declared.frame.Frame.{Frame}
+use Rattle.map_text.specs.Lines.{lines_of}
+use Rattle.map_text.specs.Views.{line_of}
 use Rattle.map_lines.specs.ProgramMap.{program_map}
 use Rattle.map_lines.specs.Shown.{address_in, homes_of}
 use Rattle.map_lines.proofs.Whole.{at-place, can-at, first-next, first-total, functions-put, made-at, small-objects}

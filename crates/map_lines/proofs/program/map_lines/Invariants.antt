@@ -1,8 +1,8 @@
 use Rattle.std.proofs.Common.{◌≡◌, ◌++◌, drop, map}
 use Rattle.c_tree.specs.Erased.{function_of, program_of}
 use Rattle.lower_lines.specs.Lowering.{first_statement}
-use Rattle.pcc_listing.specs.Lines.{function_lines, lines_of, numbered}
-use Rattle.pcc_listing.specs.Views.{line_of}
+use Rattle.map_text.specs.Lines.{function_lines, lines_of, numbered}
+use Rattle.map_text.specs.Views.{line_of}
 use Rattle.map_lines.specs.ProgramMap.{functions_over, program_map}
 use Rattle.map_lines.specs.Shown.{address_in, homes_of}
 use Rattle.map_lines.proofs.program.map_lines.Given as goal

@@ -1,8 +1,8 @@
 use Rattle.std.proofs.Common.{◌≡◌, ◌++◌, drop, map}
 use Rattle.c_tree.specs.Erased.{array_of}
 use Rattle.ia32_emit.specs.Locations.{slots_of}
-use Rattle.pcc_listing.specs.Lines.{array_lines, numbered}
-use Rattle.pcc_listing.specs.Views.{line_of}
+use Rattle.map_text.specs.Lines.{array_lines, numbered}
+use Rattle.map_text.specs.Views.{line_of}
 use Rattle.map_lines.specs.Belongs.{arrays_at}
 use Rattle.map_lines.proofs.variables.push_arrays.Given as goal
 

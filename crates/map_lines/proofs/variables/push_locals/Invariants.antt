@@ -1,8 +1,8 @@
 use Rattle.std.proofs.Common.{◌≡◌, ◌+◌, ◌++◌, drop, map, flat_map, length}
 use Rattle.c_tree.specs.Erased.{local_of}
 use Rattle.lower_lines.specs.Shown.{local_widths}
-use Rattle.pcc_listing.specs.Lines.{numbered, variable_lines}
-use Rattle.pcc_listing.specs.Views.{line_of}
+use Rattle.map_text.specs.Lines.{numbered, variable_lines}
+use Rattle.map_text.specs.Views.{line_of}
 use Rattle.map_lines.specs.Belongs.{local_variables}
 use Rattle.map_lines.proofs.variables.push_locals.Given as goal
 

@@ -1,7 +1,7 @@
 use Rattle.std.proofs.Common.{◌≡◌, ◌++◌, drop, map}
 use Rattle.c_tree.specs.Erased.{object_of}
-use Rattle.pcc_listing.specs.Lines.{numbered, object_lines}
-use Rattle.pcc_listing.specs.Views.{line_of}
+use Rattle.map_text.specs.Lines.{numbered, object_lines}
+use Rattle.map_text.specs.Views.{line_of}
 use Rattle.map_lines.specs.Belongs.{objects_at}
 use Rattle.map_lines.proofs.variables.push_objects.Given as goal
 

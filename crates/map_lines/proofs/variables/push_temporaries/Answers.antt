@@ -1,9 +1,9 @@
 use Rattle.std.proofs.Common.{◌++◌, ◌∷◌, [], drop, map}
 use Rattle.std.proofs.lemmas.List.{map-append}
-use Rattle.pcc_listing.specs.Lines.{numbered, variable_lines}
-use Rattle.pcc_listing.specs.Views.{line_of}
-use Rattle.pcc_listing.specs.declared.lines.Line.TheVariants.{Variable}
-use Rattle.pcc_listing.specs.declared.lines.Named.TheVariants.{Temporary}
+use Rattle.map_text.specs.Lines.{numbered, variable_lines}
+use Rattle.map_text.specs.Views.{line_of}
+use Rattle.map_text.specs.declared.lines.Line.TheVariants.{Variable}
+use Rattle.map_text.specs.declared.lines.Named.TheVariants.{Temporary}
 use Rattle.map_lines.specs.Belongs.{temporary}
 use Rattle.map_lines.proofs.Lines.{temporaries-put}
 use Rattle.map_lines.proofs.variables.push_temporaries.Goals as goal

@@ -1,6 +1,6 @@
 use Rattle.std.proofs.Common.{◌≡◌, ◌++◌, drop, map}
-use Rattle.pcc_listing.specs.Lines.{numbered, variable_lines}
-use Rattle.pcc_listing.specs.Views.{line_of}
+use Rattle.map_text.specs.Lines.{numbered, variable_lines}
+use Rattle.map_text.specs.Views.{line_of}
 use Rattle.map_lines.specs.Belongs.{temporary}
 use Rattle.map_lines.proofs.variables.push_temporaries.Given as goal
 

@@ -1,9 +1,9 @@
 -- The report of a program that is evaluated, or of sources without one.
 use Rattle.std.proofs.Common.{ℕ, List, map, refl}
 use Rattle.c_tree.specs.Erased.{program_of}
-use Rattle.pcc_reports.specs.Outside.{Work, work_of}
+use Rattle.pcc_driver.specs.Outside.{Work, work_of}
 use Rattle.pcc_driver.proofs.EvalTold.{end_sources, end_told, none_sources, none_told}
-use Rattle.pcc_driver.proofs.Status.{eval_status}
+use Rattle.pcc_driver.proofs.EvalStatus.{eval_status}
 use Rattle.pcc_driver.proofs.evaluated.eval.Goals as goal
 
 pub returns-in-Ok-clause-sources : goal.returns-in-Ok-clause-sources

@@ -1,7 +1,7 @@
 use Rattle.std.proofs.Common.{◌≤◌, length, arith, refl}
 use Rattle.ia32_machine.specs.First.{lent}
-use Rattle.pcc_reports.specs.Sources.{file_limit}
-use Rattle.pcc_reports.specs.Outside.{work_of}
+use Rattle.pcc_driver.specs.Sources.{file_limit}
+use Rattle.pcc_driver.specs.Outside.{work_of}
 use Rattle.pcc_driver.proofs.Running.{lent_first, machine_file, machine_streams, machine_told, no_machine_file}
 use Rattle.pcc_driver.proofs.Running.{no_machine_told}
 use Rattle.pcc_driver.proofs.run.run.Goals as goal

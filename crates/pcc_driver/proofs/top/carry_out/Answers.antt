@@ -1,6 +1,6 @@
 use Rattle.std.proofs.Common.{map, refl}
-use Rattle.pcc_reports.specs.Outside.{work_of}
-use Rattle.pcc_driver.proofs.Told.{eval_told}
+use Rattle.pcc_driver.specs.Outside.{work_of}
+use Rattle.pcc_driver.proofs.CommandTold.{eval_told}
 use Rattle.pcc_driver.proofs.top.carry_out.Goals as goal
 
 pub returns-in-Run-clause-told : goal.returns-in-Run-clause-told

@@ -4,8 +4,8 @@ use Rattle.std.specs.declared.alloc.Global.{Global}
 use Rattle.pcc_words.specs.Asked.{Command, HasFewSources, command_of}
 use Rattle.pcc_words.specs.Words.{meaning}
 use Rattle.pcc_words.proofs.Few.{few}
-use Rattle.pcc_reports.specs.Outside.{Outside, outside_of, output_of}
-use Rattle.pcc_reports.specs.declared.report.Report.TheVariants as reports
+use Rattle.pcc_driver.specs.Outside.{Outside, outside_of, output_of}
+use Rattle.pcc_driver.specs.declared.report.Report.TheVariants as reports
 use Rattle.pcc_driver.proofs.Causes.{status_causes}
 use Rattle.pcc_driver.proofs.Exact.{exact_status}
 use Rattle.pcc_driver.proofs.Wanting.{wanting_caused, wanting_few, wanting_not_done, wanting_noticed, wanting_told}

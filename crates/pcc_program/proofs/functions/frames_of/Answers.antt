@@ -2,7 +2,7 @@
 use Rattle.std.proofs.Common.{◌+◌, List, length, take, refl, sym, subst}
 use Rattle.std.specs.List.{AllZip}
 use Rattle.std.proofs.lemmas.Option.{slice_get_read}
-use Rattle.ia32_frames.specs.declared.frame.Frame.{Frame}
+use Rattle.ia32_select.specs.declared.frame.Frame.{Frame}
 use Rattle.pcc_program.specs.Passes.{IsFrameOf}
 use Rattle.pcc_program.proofs.Loops.{frames-more}
 use Rattle.pcc_program.proofs.functions.frames_of.Goals as goal

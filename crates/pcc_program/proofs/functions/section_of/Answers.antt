@@ -3,7 +3,7 @@ use Rattle.std.proofs.Common.{◌≡◌, ◌∙◌, ℕ, ap, arith, subst, List}
 use Rattle.ia32_asm.specs.Sections.{IsSection}
 use Rattle.ia32_insn.specs.declared.item.Item.{Item}
 use Rattle.ia32_emit.specs.Locations.{slots_of}
-use Rattle.ia32_frames.specs.Frames.{frame_arrays, frame_bytes, frame_slots}
+use Rattle.ia32_select.specs.Frames.{frame_arrays, frame_bytes, frame_slots}
 use Rattle.ia32_rows.specs.Rows.{selected}
 use Rattle.ia32_rows.specs.Placements.{in_slots}
 use Rattle.pcc_program.specs.Code.{framed_items}

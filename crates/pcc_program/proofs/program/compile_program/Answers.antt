@@ -5,14 +5,14 @@ use Rattle.std.specs.List.{All, AllZip}
 use Rattle.pcc_base.specs.Bytes.{AreBytes}
 use Rattle.c_tree.specs.Erased.{program_of}
 use Rattle.flow_graph.specs.Graphs.{Flow}
-use Rattle.ia32_frames.specs.Frames.{frame_bytes}
-use Rattle.ia32_functions.specs.Sizes.{most_bytes}
+use Rattle.ia32_select.specs.Frames.{frame_bytes}
+use Rattle.ia32_select.specs.Sizes.{most_bytes}
 use Rattle.lower.specs.Graphs.{graphs_of}
-use Rattle.lower_programs.specs.Lowered.{AreLowered}
-use Rattle.pcc_headline.specs.Products.{IsImageOf}
-use Rattle.pcc_listing.specs.Lines.{lines_of, lines_text}
+use Rattle.lower_laws.specs.Lowered.{AreLowered}
+use Rattle.pcc_program.specs.Products.{IsImageOf}
+use Rattle.map_text.specs.Lines.{lines_of, lines_text}
 use Rattle.pcc_program.specs.Code.{HasFrame}
-use Rattle.pcc_program.specs.Laws.{linked_map}
+use Rattle.pcc_program.specs.LinkedLaws.{linked_map}
 use Rattle.pcc_program.specs.Passes.{AreSectionsFrom, IsFrameOf}
 use Rattle.pcc_program.proofs.Passed.{image-fits, linked-are, links, map-same, shows-same, small-frames}
 use Rattle.pcc_program.proofs.program.compile_program.Goals as goal

@@ -1,6 +1,6 @@
 use Rattle.std.proofs.Common.{List, length, ap, arith}
 use Rattle.puzzle_board.specs.declared.area.Area.{Area}
-use Rattle.puzzle_choices.proofs.Onward.{onward-more, onward-none}
+use Rattle.puzzle_solver.proofs.Onward.{onward-more, onward-none}
 use Rattle.puzzle_solver.proofs.RoomWorths.{none-waiting, onward-length, ready-room, ready-waiting}
 use Rattle.puzzle_solver.proofs.narrow.place_narrow.Goals as goal
 

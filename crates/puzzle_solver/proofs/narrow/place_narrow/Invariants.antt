@@ -1,7 +1,7 @@
 use Rattle.std.proofs.Common.{◌+◌, ◌*◌, ◌≤◌}
 use Rattle.puzzle_board.specs.Boards.{free_areas}
 use Rattle.puzzle_solver.specs.Columns.{IsRoom, IsWaiting, columns_from}
-use Rattle.puzzle_choices.specs.Onward.{IsOnward}
+use Rattle.puzzle_solver.specs.Onward.{IsOnward}
 use Rattle.puzzle_solver.proofs.narrow.place_narrow.Given as goal
 
 abbrev pub invariant-loop-area : goal.invariant-loop-area

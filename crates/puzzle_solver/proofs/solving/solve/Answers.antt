@@ -1,7 +1,7 @@
 use Rattle.std.proofs.Common.{List, ap, arith, length, refl}
 use Rattle.puzzle_board.specs.declared.area.Area.{Area}
 use Rattle.puzzle_solver.proofs.Ends.{all-placed, counted-bounded, few-pieces, solved-solvable}
-use Rattle.puzzle_choices.proofs.Onward.{onward-more}
+use Rattle.puzzle_solver.proofs.Onward.{onward-more}
 use Rattle.puzzle_solver.proofs.solving.solve.Goals as goal
 
 pub returns-then-not-is_bounded-clause-unsolvable : goal.returns-then-not-is_bounded-clause-unsolvable

@@ -4,8 +4,8 @@ use Rattle.ia32_machine.specs.First.{lent}
 use Rattle.ia32_machine.specs.Lending.{IsPutOn}
 use Rattle.ia32_machine.specs.Performs.{AdvanceTold}
 use Rattle.ia32_machine.proofs.Performs.{fetched}
-use Rattle.ia32_processor.proofs.Table.{decoded-kept}
-use Rattle.ia32_machine.proofs.Table.{found-fetched, found-after}
+use Rattle.ia32_machine.proofs.DecodedTable.{decoded-kept}
+use Rattle.ia32_machine.proofs.FetchedTable.{found-fetched, found-after}
 use Rattle.ia32_machine.proofs.machine.Machine.advance.Goals as goal
 
 pub perform-requires : goal.perform-requires

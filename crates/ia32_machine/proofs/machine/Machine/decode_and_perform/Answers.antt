@@ -5,8 +5,8 @@ use Rattle.ia32_machine.specs.Lending.{IsPutOn}
 use Rattle.ia32_machine.specs.Performs.{AdvanceTold}
 use Rattle.ia32_machine.specs.declared.ends.MachineEnd.TheVariants.{Stopped}
 use Rattle.ia32_machine.proofs.Performs.{fetched, none_put, unfetched}
-use Rattle.ia32_processor.proofs.Table.{decoded-kept}
-use Rattle.ia32_machine.proofs.Table.{fetched-spelled}
+use Rattle.ia32_machine.proofs.DecodedTable.{decoded-kept}
+use Rattle.ia32_machine.proofs.FetchedTable.{fetched-spelled}
 use Rattle.ia32_machine.proofs.machine.Machine.decode_and_perform.Goals as goal
 
 pub overflow_cast-after : goal.overflow_cast-after

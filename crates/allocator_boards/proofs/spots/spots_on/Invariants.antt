@@ -1,6 +1,0 @@
-use Rattle.std.proofs.Common.{◌≡◌, take}
-use Rattle.allocator_boards.specs.Solutions.{spots_of}
-use Rattle.allocator_boards.proofs.spots.spots_on.Given as goal
-
-abbrev pub invariant-loop-piece : goal.invariant-loop-piece
-invariant-loop-piece g l = l.spots.items ≡ take l.piece (spots_of l.board.states)

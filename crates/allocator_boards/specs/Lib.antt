@@ -1,9 +1,0 @@
-pub mod Order
-pub mod PointBoards
-pub mod PointMaps
-pub mod PointPuzzles
-pub mod Slots
-pub mod Solutions
-pub mod Spills
-pub mod SplitForms
-pub mod WorkedBoards

@@ -1,5 +1,0 @@
-use Rattle.c_accepted.proofs.DeclaredFirstFiles.{locals_declared_first}
-use Rattle.c_accepted.proofs.declared_first.locals_are_declared_first.Goals as goal
-
-pub returns : goal.returns
-returns c = locals_declared_first

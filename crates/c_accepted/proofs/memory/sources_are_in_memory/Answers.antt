@@ -1,5 +1,0 @@
-use Rattle.c_accepted.proofs.Files.{sources_are_in_memory}
-use Rattle.c_accepted.proofs.memory.sources_are_in_memory.Goals as goal
-
-pub returns : goal.returns
-returns c = sources_are_in_memory

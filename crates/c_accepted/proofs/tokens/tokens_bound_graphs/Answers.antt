@@ -1,8 +1,0 @@
-use Rattle.c_accepted.proofs.Small.{files_bound_graphs, texts_bound_graphs}
-use Rattle.c_accepted.proofs.tokens.tokens_bound_graphs.Goals as goal
-
-pub returns-clause-files : goal.returns-clause-files
-returns-clause-files c = files_bound_graphs
-
-pub returns-clause-texts : goal.returns-clause-texts
-returns-clause-texts c = texts_bound_graphs

@@ -1,4 +1,0 @@
-pub mod Tables
-pub mod Entities
-pub mod MeaningNames
-pub mod Sameness

@@ -1,0 +1,9 @@
+pub mod FileAnswers
+pub mod OutsideAnswers
+pub mod Objects
+pub mod Lists
+pub mod Laws
+pub mod ProgramAnswers
+pub mod Outlines
+pub mod Tables
+pub mod NumberingLaws

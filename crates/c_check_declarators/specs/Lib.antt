@@ -1,4 +1,0 @@
-pub mod Views
-pub mod Answers
-pub mod Forms
-pub mod Together

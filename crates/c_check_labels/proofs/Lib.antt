@@ -1,3 +1,0 @@
-mod Sorted
-mod GivenValues
-mod Pushes

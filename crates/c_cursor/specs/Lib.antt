@@ -1,4 +1,0 @@
-pub mod Places
-pub mod Readings
-pub mod Rows
-pub mod Fronts

@@ -1,4 +1,0 @@
-pub mod Declaring
-pub mod Filling
-pub mod Passed
-pub mod DeclaringLocals

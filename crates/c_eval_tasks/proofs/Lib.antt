@@ -1,9 +1,0 @@
-pub mod Advancing
-pub mod Going
-pub mod Performing
-pub mod Reaching
-pub mod Stepping
-pub mod Streaming
-pub mod Walking
-pub mod Calling
-pub mod Taking

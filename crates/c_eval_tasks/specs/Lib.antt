@@ -1,5 +1,0 @@
-pub mod AtOnce
-pub mod Runs
-pub mod Performs
-pub mod Standing
-pub mod Turns

@@ -1,4 +1,0 @@
-pub mod Notes
-pub mod Said
-pub mod TypeNames
-pub mod Arguments

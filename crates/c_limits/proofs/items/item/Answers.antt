@@ -1,5 +1,0 @@
-use Rattle.std.proofs.Common.{rules}
-use Rattle.c_limits.proofs.items.item.Goals as goal
-
-pub returns-in-Array-default-default-default-List : goal.returns-in-Array-default-default-default-List
-returns-in-Array-default-default-default-List c = search rules

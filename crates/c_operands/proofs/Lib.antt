@@ -1,4 +1,0 @@
-pub mod Operands
-pub mod Together
-pub mod Updates
-pub mod Chosen

@@ -1,4 +1,0 @@
-pub mod Judged
-pub mod Operators
-pub mod Parts
-pub mod Constants

@@ -1,0 +1,26 @@
+use Rattle.std.proofs.Common.{arith}
+use Rattle.std.proofs.lemmas.Result.{err_from_is_err_and}
+use Rattle.c_syntax.specs.Declarations.{parameter_of}
+use Rattle.c_parse.proofs.Listing.{list_more, list_refused, list_done}
+use Rattle.c_parse.proofs.declarators.parameters.Goals as goal
+
+pub parameters-preserved : goal.parameters-preserved
+parameters-preserved c =
+    record {
+      reads = list_more parameter_of _ _ _ _ _ _ _ _ _ _ _ c.parameters.invariant.reads c.in-Some.ensures.0
+          c.in_ok-next.ensures.0 c.in_ok-push-2.ensures c.in_ok-push-3.ensures c.in-Some.ensures.1
+          (omega (arith, c.in_ok-next.ensures.1));
+      shorter = omega (arith, c.in-Some.ensures.1, c.in_ok-next.ensures.1, c.parameters.invariant.shorter);
+    }
+
+pub returns-in_err-next : goal.returns-in_err-next
+returns-in_err-next c =
+    let p = err_from_is_err_and c.from_residual-in_err-next.result c.from_residual-in_err-next.ensures.1 in
+    rw (p.1, p.2) (list_refused _ _ _ _ _ _ _ c.parameters.invariant.reads c.in-Some.ensures.0
+    c.in_err-next.ensures)
+
+pub returns : goal.returns
+returns c = (
+  list_done _ _ _ _ _ c.parameters.invariant.reads c.in_default.ensures.0 c.in_default.ensures.1,
+  rw c.in_default.ensures.1 c.parameters.invariant.shorter,
+)

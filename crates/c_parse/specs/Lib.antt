@@ -1,0 +1,5 @@
+pub mod DeclarationParts
+pub mod Braces
+pub mod StatementParts
+pub mod ParserRefusals
+pub mod Passing

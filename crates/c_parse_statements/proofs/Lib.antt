@@ -1,3 +1,0 @@
-pub mod Below
-pub mod Parted
-pub mod Rows

@@ -1,5 +1,0 @@
-use Rattle.c_sound.proofs.Files.{arrays_declared}
-use Rattle.c_sound.proofs.declares.arrays_are_declared.Goals as goal
-
-pub returns : goal.returns
-returns c = arrays_declared

@@ -1,5 +1,0 @@
-use Rattle.c_sound.proofs.IdentifiersFiles.{programs_have_names}
-use Rattle.c_sound.proofs.identifiers.programs_have_names.Goals as goal
-
-pub returns : goal.returns
-returns c = programs_have_names

@@ -1,5 +1,0 @@
-use Rattle.c_sound.proofs.Sound.{typed_is_well_typed}
-use Rattle.c_sound.proofs.laws.typed_is_well_typed.Goals as goal
-
-pub returns : goal.returns
-returns c = typed_is_well_typed

@@ -1,9 +1,0 @@
-use Rattle.std.proofs.Common.{sym, subst, ℕ, List}
-use Rattle.c_tokens.specs.Pieces.{Begins, Space}
-use Rattle.c_tokens.proofs.SkipPieces.{space_begins}
-use Rattle.c_tokens.proofs.skips.space_at.Goals as goal
-
-pub returns : goal.returns
-returns c = λ fresh.
-    let h = c.requires in
-    subst (λ (bs : List ℕ). Begins fresh bs 1 Space) (sym h.2) (space_begins fresh h.0 h.1 h.3)

@@ -1,8 +1,0 @@
--- The objects so far.
-use Rattle.std.proofs.Common.{◌≡◌, map, take}
-use Rattle.c_tree.specs.Erased.{object_of}
-use Rattle.c_types.specs.Tables.{object_described}
-use Rattle.c_types.proofs.objects.built.Given as goal
-
-abbrev pub invariant-objects : goal.invariant-objects
-invariant-objects l = map object_of l.objects.items ≡ map object_described (take l.one-index l.described)

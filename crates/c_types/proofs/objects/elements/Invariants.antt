@@ -1,7 +1,0 @@
--- The elements so far.
-use Rattle.std.proofs.Common.{◌≡◌}
-use Rattle.c_typing.specs.Numbering.{filled}
-use Rattle.c_types.proofs.objects.elements.Given as goal
-
-abbrev pub invariant-elements : goal.invariant-elements
-invariant-elements l = l.elements.items ≡ filled l.place l.values

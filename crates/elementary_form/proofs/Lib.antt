@@ -1,4 +1,0 @@
-pub mod Fitting
-pub mod Naming
-pub mod Outcomes
-pub mod Settling

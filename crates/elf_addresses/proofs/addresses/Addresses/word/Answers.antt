@@ -1,5 +1,0 @@
-use Rattle.std.proofs.Common.{rules}
-use Rattle.elf_addresses.proofs.addresses.Addresses.word.Goals as goal
-
-pub returns-then-relocation : goal.returns-then-relocation
-returns-then-relocation c = search rules

@@ -1,0 +1,10 @@
+use Rattle.std.proofs.Common.{rules}
+use Rattle.std.proofs.lemmas.List.Sorted.{answers_always}
+use Rattle.flow_liveness.proofs.Distancing.{searched}
+use Rattle.flow_liveness.proofs.distances.place_of.Goals as goal
+
+pub returns : goal.returns
+returns c =
+    let facts = c.binary_search_by_key.ensures in
+    searched c.args.entries.now c.requires c.args.var _ facts.bound
+    (facts.position (λ e. e.0) (answers_always _ _ _ (λ f a r g called. search rules)))

@@ -1,0 +1,12 @@
+pub mod Distances
+pub mod Index
+pub mod Passages
+pub mod Search
+pub mod Ways
+pub mod Lists
+pub mod SearchBack
+pub mod FormLaws
+pub mod FormRuns
+pub mod Forms
+pub mod Names
+pub mod Worked

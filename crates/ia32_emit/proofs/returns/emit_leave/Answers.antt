@@ -1,0 +1,5 @@
+use Rattle.std.proofs.Common.{rules}
+use Rattle.ia32_emit.proofs.returns.emit_leave.Goals as goal
+
+pub returns : goal.returns
+returns c = search rules

@@ -1,5 +1,0 @@
-use Rattle.std.proofs.Common.{rules}
-use Rattle.ia32_emit_accesses.proofs.checks.count_before.Goals as goal
-
-pub returns : goal.returns
-returns c = search rules

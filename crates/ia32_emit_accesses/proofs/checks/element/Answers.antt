@@ -1,5 +1,0 @@
-use Rattle.std.proofs.Common.{rules}
-use Rattle.ia32_emit_accesses.proofs.checks.element.Goals as goal
-
-pub returns-in-Sixteen : goal.returns-in-Sixteen
-returns-in-Sixteen c = search rules

@@ -1,5 +1,0 @@
-use Rattle.std.proofs.Common.{rules}
-use Rattle.ia32_emit_calls.proofs.passing.emit_deepen.Goals as goal
-
-pub returns : goal.returns
-returns c = search rules

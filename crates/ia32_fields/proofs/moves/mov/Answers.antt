@@ -1,5 +1,0 @@
-use Rattle.std.proofs.Common.{rules}
-use Rattle.ia32_fields.proofs.moves.mov.Goals as goal
-
-pub returns-in-Reg : goal.returns-in-Reg
-returns-in-Reg c = search rules

@@ -1,7 +1,0 @@
-pub mod Emitted
-mod Counted
-pub mod Fine
-pub mod RowSizes
-pub mod Short
-pub mod Sums
-pub mod Whole

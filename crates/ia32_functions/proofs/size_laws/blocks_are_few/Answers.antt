@@ -1,5 +1,0 @@
-use Rattle.ia32_functions.proofs.Whole.{few-blocks}
-use Rattle.ia32_functions.proofs.size_laws.blocks_are_few.Goals as goal
-
-pub returns : goal.returns
-returns c = few-blocks

@@ -1,0 +1,11 @@
+use Rattle.ia32_laws.proofs.Comparing.{branch-follows, same-follows, set-follows}
+use Rattle.ia32_laws.proofs.comparisons.comparisons_are_followed.Goals as goal
+
+pub returns-clause-set : goal.returns-clause-set
+returns-clause-set c = set-follows
+
+pub returns-clause-same : goal.returns-clause-same
+returns-clause-same c = same-follows
+
+pub returns-clause-branch : goal.returns-clause-branch
+returns-clause-branch c = branch-follows

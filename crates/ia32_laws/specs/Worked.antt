@@ -1,0 +1,63 @@
+-- Rows over slots and over registers.
+use Rattle.std.specs.Prelude.{◌≡◌, [], ◌∷◌}
+use Rattle.ia32_insn.specs.declared.register_names.Reg32.TheVariants.{Eax, Ecx, Edx, Ebx, Esi}
+use Rattle.ia32_insn.specs.declared.register_names.Reg8.TheVariants.{Bl, Cl, Dh}
+use Rattle.ia32_insn.specs.Places.{InWord, InByte, InSlot}
+use Rattle.ia32_insn.specs.declared.operand.Rm32.TheVariants as rm
+use Rattle.ia32_insn.specs.declared.operand.Rm8.TheVariants as rm8
+use Rattle.ia32_insn.specs.declared.insn.AluOp.TheVariants as alu
+use Rattle.ia32_insn.specs.declared.insn.Cond.TheVariants as cond
+use Rattle.ia32_insn.specs.declared.insn.Insn.TheVariants as insn
+use Rattle.ia32_insn.specs.declared.insn.ShiftOp.TheVariants as shift
+use Rattle.ia32_insn.specs.declared.item.Item.TheVariants as item
+use Rattle.ia32_insn.specs.Items.{plain}
+use Rattle.flow_graph.specs.declared.op.Comparison.TheVariants.{Lt, Ge}
+use Rattle.ia32_rows.specs.Placements.{below}
+use Rattle.ia32_rows.specs.Rows.{branching, dividing, halving, lowering, setting, shifting}
+
+-- Over slots a shift is four instructions, and one where the operand is in the result's place and the count in CL.
+-- Where the result stands in ECX it goes by ESI.
+abbrev pub ShiftsAreRows : Type 0
+ShiftsAreRows =
+    (shifting shift.Shl (InSlot 28) (InSlot 20) (InSlot 24)
+    ≡ plain (insn.MovLoad Esi (below 20)) ∷ plain (insn.Mov8Load Cl (below 24))
+    ∷ plain (insn.ShiftCl shift.Shl (rm.Reg Esi)) ∷ plain (insn.Mov (rm.Mem (below 28)) Esi) ∷ [])
+    × (shifting shift.Sar (InWord Eax) (InWord Eax) (InByte Cl)
+    ≡ plain (insn.ShiftCl shift.Sar (rm.Reg Eax)) ∷ [])
+    × (shifting shift.Sar (InWord Edx) (InWord Eax) (InByte Dh)
+    ≡ plain (insn.Mov (rm.Reg Esi) Eax) ∷ plain (insn.Mov8 (rm8.Reg Cl) Dh)
+    ∷ plain (insn.ShiftCl shift.Sar (rm.Reg Esi)) ∷ plain (insn.Mov (rm.Reg Edx) Esi) ∷ [])
+    × (shifting shift.Shl (InWord Ecx) (InWord Ebx) (InByte Cl)
+    ≡ plain (insn.Mov (rm.Reg Esi) Ebx) ∷ plain (insn.ShiftCl shift.Shl (rm.Reg Esi))
+    ∷ plain (insn.Mov (rm.Reg Ecx) Esi) ∷ [])
+
+-- A division by what stands in EDX or EAX goes by ESI; else the divisor is read where it stands.
+abbrev pub DivisionsAreRows : Type 0
+DivisionsAreRows =
+    (dividing Eax (InSlot 28) (InSlot 20) (InSlot 24)
+    ≡ plain (insn.MovLoad Eax (below 20)) ∷ plain insn.Cdq ∷ plain (insn.IDiv (rm.Mem (below 24)))
+    ∷ plain (insn.Mov (rm.Mem (below 28)) Eax) ∷ [])
+    × (dividing Eax (InWord Eax) (InWord Eax) (InWord Ebx)
+    ≡ plain insn.Cdq ∷ plain (insn.IDiv (rm.Reg Ebx)) ∷ [])
+    × (dividing Edx (InWord Edx) (InWord Ecx) (InWord Eax)
+    ≡ plain (insn.Mov (rm.Reg Esi) Eax) ∷ plain (insn.Mov (rm.Reg Eax) Ecx) ∷ plain insn.Cdq
+    ∷ plain (insn.IDiv (rm.Reg Esi)) ∷ [])
+
+-- Comparisons: one instruction before the condition, unless both words are in memory.
+abbrev pub ComparisonsAreRows : Type 0
+ComparisonsAreRows =
+    (setting Lt (InWord Ebx) (InWord Eax) (InSlot 20)
+    ≡ plain (insn.AluLoad alu.Cmp Eax (below 20)) ∷ plain (insn.SetCc cond.L (rm8.Reg Bl))
+    ∷ plain (insn.MovZx8 Ebx (rm8.Reg Bl)) ∷ [])
+    × (branching Ge (InSlot 20) (InWord Edx) 3 4
+    ≡ plain (insn.Alu alu.Cmp (rm.Mem (below 20)) Edx) ∷ item.JumpIf cond.Ge 3 ∷ item.JumpTo 4 ∷ [])
+    × (branching Lt (InSlot 20) (InSlot 24) 3 4
+    ≡ plain (insn.MovLoad Esi (below 20)) ∷ plain (insn.AluLoad alu.Cmp Esi (below 24)) ∷ item.JumpIf cond.L 3
+    ∷ item.JumpTo 4 ∷ [])
+
+-- The low byte and the low 16 bits of a register's word are one instruction.
+abbrev pub PartsAreRows : Type 0
+PartsAreRows =
+    (lowering (InByte Dh) (InWord Ebx) ≡ plain (insn.Mov8 (rm8.Reg Dh) Bl) ∷ [])
+    × (lowering (InSlot 20) (InWord Ebx) ≡ plain (insn.Mov (rm.Mem (below 20)) Ebx) ∷ [])
+    × (halving (InWord Eax) (InWord Ebx) ≡ plain (insn.MovSx16 Eax (rm.Reg Ebx)) ∷ [])

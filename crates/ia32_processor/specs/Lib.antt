@@ -1,4 +1,0 @@
-pub mod Answers
-pub mod Loans
-pub mod Code
-pub mod Table

@@ -1,9 +1,0 @@
--- What CDQ and IDIV make of words.
-use Rattle.std.proofs.Common.{rules}
-use Rattle.ia32_programs.specs.Words.{DivisionIs, DivisionTraps}
-
-pub division-traps : DivisionTraps
-division-traps x y f g e = search rules
-
-pub division-is : DivisionIs
-division-is x y f g e = search rules

@@ -1,9 +1,0 @@
-use Rattle.ia32_programs.proofs.Elements.{put-follows}
-use Rattle.ia32_programs.proofs.Loading.{get-follows}
-use Rattle.ia32_programs.proofs.accesses.objects_are_followed.Goals as goal
-
-pub returns-clause-get : goal.returns-clause-get
-returns-clause-get c = get-follows
-
-pub returns-clause-put : goal.returns-clause-put
-returns-clause-put c = put-follows

@@ -1,5 +1,0 @@
-use Rattle.ia32_programs.proofs.EntriesCalling.{call-comes}
-use Rattle.ia32_programs.proofs.entries.functions_are_called.Goals as goal
-
-pub returns : goal.returns
-returns c = record { call = call-comes }

@@ -1,5 +1,0 @@
-use Rattle.ia32_programs.proofs.Follows.{steps-follow}
-use Rattle.ia32_programs.proofs.standing_laws.steps_are_followed.Goals as goal
-
-pub returns : goal.returns
-returns c = steps-follow

@@ -1,4 +1,0 @@
-pub mod Registers
-pub mod Words
-pub mod Places
-pub mod Worked

@@ -1,0 +1,31 @@
+//! The items of a whole function, over slots, and its frame.
+//!
+//! In: the graph of a function. Out: the bytes of its frame, the offset of each variable and frame array from EBP
+//! (`Frame`), and the items of its code (`select_function`). The promise: the items are those that the definitions name
+//! (`specs/Rows.antt` of `ia32_rows`), and saved registers, slots and arrays have no byte in common
+//! (`specs/Laws.antt`), so that the graph can have code over them. The only refusal is want of memory.
+//!
+//! `frame` has the frame; `site` where each variable stands by its number, `headers`, `blocks` and `ops` the items.
+//! `frame_laws` and `size_laws` have laws alone: what an assembler and a linker ask of the items, over any placement
+//! that supports them.
+#![tactic(auto)]
+
+mod arrays;
+mod blocks;
+mod branches;
+mod frame;
+mod frame_laws;
+mod function;
+mod headers;
+mod ops;
+mod ops_by_number;
+mod site;
+mod size_laws;
+
+pub use branches::branch;
+pub use frame::Frame;
+pub use frame_laws::{frames_support, offsets_are_below};
+pub use function::select_function;
+pub use headers::emit_headers;
+pub use site::{Site, all_at, any_at, array_at, array_of, at, loop_label};
+pub use size_laws::{blocks_are_few, selected_is_code};

@@ -1,6 +1,0 @@
-use Rattle.std.proofs.Common.{arith}
-use Rattle.std.proofs.lemmas.Grind.{common_steps}
-use Rattle.lower_loops.proofs.turns.start_loop.Goals as goal
-
-pub returns-clause-adds : goal.returns-clause-adds
-returns-clause-adds c = grind (arith, common_steps)

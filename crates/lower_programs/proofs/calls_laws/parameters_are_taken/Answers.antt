@@ -1,5 +1,0 @@
-use Rattle.lower_programs.proofs.Parameters.{parameters-taken}
-use Rattle.lower_programs.proofs.calls_laws.parameters_are_taken.Goals as goal
-
-pub returns : goal.returns
-returns c = parameters-taken

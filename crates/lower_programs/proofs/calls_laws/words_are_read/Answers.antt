@@ -1,5 +1,0 @@
-use Rattle.lower_programs.proofs.Parameters.{words-read}
-use Rattle.lower_programs.proofs.calls_laws.words_are_read.Goals as goal
-
-pub returns : goal.returns
-returns c = words-read

@@ -1,5 +1,0 @@
-use Rattle.lower_programs.proofs.Nulls.{turned-compared}
-use Rattle.lower_programs.proofs.comparisons.turned_nulls_are_compared.Goals as goal
-
-pub returns : goal.returns
-returns c = turned-compared

@@ -1,5 +1,0 @@
-use Rattle.lower_programs.proofs.ElementsNaming.{targets-stepped}
-use Rattle.lower_programs.proofs.elements.targets_are_stepped.Goals as goal
-
-pub returns : goal.returns
-returns c = targets-stepped

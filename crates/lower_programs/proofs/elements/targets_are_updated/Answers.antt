@@ -1,5 +1,0 @@
-use Rattle.lower_programs.proofs.ElementsNaming.{targets-updated}
-use Rattle.lower_programs.proofs.elements.targets_are_updated.Goals as goal
-
-pub returns : goal.returns
-returns c = targets-updated

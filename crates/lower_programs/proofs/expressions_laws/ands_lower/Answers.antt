@@ -1,5 +1,0 @@
-use Rattle.lower_programs.proofs.Logical.{ands-lower}
-use Rattle.lower_programs.proofs.expressions_laws.ands_lower.Goals as goal
-
-pub returns : goal.returns
-returns c = ands-lower

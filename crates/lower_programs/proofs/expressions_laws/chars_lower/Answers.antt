@@ -1,5 +1,0 @@
-use Rattle.lower_programs.proofs.Atoms.{chars-lower}
-use Rattle.lower_programs.proofs.expressions_laws.chars_lower.Goals as goal
-
-pub returns : goal.returns
-returns c = chars-lower

@@ -1,5 +1,0 @@
-use Rattle.lower_programs.proofs.Conditional.{choices-lower}
-use Rattle.lower_programs.proofs.expressions_laws.choices_lower.Goals as goal
-
-pub returns : goal.returns
-returns c = choices-lower

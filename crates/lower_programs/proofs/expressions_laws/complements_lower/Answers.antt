@@ -1,5 +1,0 @@
-use Rattle.lower_programs.proofs.Unary.{complements-lower}
-use Rattle.lower_programs.proofs.expressions_laws.complements_lower.Goals as goal
-
-pub returns : goal.returns
-returns c = complements-lower

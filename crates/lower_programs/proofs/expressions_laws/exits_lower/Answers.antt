@@ -1,5 +1,0 @@
-use Rattle.lower_programs.proofs.Outside.{exits-lower}
-use Rattle.lower_programs.proofs.expressions_laws.exits_lower.Goals as goal
-
-pub returns : goal.returns
-returns c = exits-lower

@@ -1,5 +1,0 @@
-use Rattle.lower_programs.proofs.Reading.{locals-lower}
-use Rattle.lower_programs.proofs.expressions_laws.locals_lower.Goals as goal
-
-pub returns : goal.returns
-returns c = locals-lower

@@ -1,5 +1,0 @@
-use Rattle.lower_programs.proofs.Calling.{number-calls_lower}
-use Rattle.lower_programs.proofs.expressions_laws.number_calls_lower.Goals as goal
-
-pub returns : goal.returns
-returns c = number-calls_lower

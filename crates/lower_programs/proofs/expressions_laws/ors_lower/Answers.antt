@@ -1,5 +1,0 @@
-use Rattle.lower_programs.proofs.Logical.{ors-lower}
-use Rattle.lower_programs.proofs.expressions_laws.ors_lower.Goals as goal
-
-pub returns : goal.returns
-returns c = ors-lower

@@ -1,5 +1,0 @@
-use Rattle.lower_programs.proofs.WholePrograms.{graphs-are-there}
-use Rattle.lower_programs.proofs.fits.graphs_are_there.Goals as goal
-
-pub returns : goal.returns
-returns c = graphs-are-there

@@ -1,5 +1,0 @@
-use Rattle.lower_programs.proofs.Indexing.{indexes-assigned}
-use Rattle.lower_programs.proofs.places.indexes_are_assigned.Goals as goal
-
-pub returns : goal.returns
-returns c = indexes-assigned

@@ -1,5 +1,0 @@
-use Rattle.lower_programs.proofs.Indexing.{indexes-read}
-use Rattle.lower_programs.proofs.places.indexes_are_read.Goals as goal
-
-pub returns : goal.returns
-returns c = indexes-read

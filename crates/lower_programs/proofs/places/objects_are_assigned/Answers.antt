@@ -1,5 +1,0 @@
-use Rattle.lower_programs.proofs.Writing.{objects-assigned}
-use Rattle.lower_programs.proofs.places.objects_are_assigned.Goals as goal
-
-pub returns : goal.returns
-returns c = objects-assigned

@@ -1,5 +1,0 @@
-use Rattle.lower_programs.proofs.PlacesReading.{objects-read}
-use Rattle.lower_programs.proofs.places.objects_are_read.Goals as goal
-
-pub returns : goal.returns
-returns c = objects-read

@@ -1,5 +1,0 @@
-use Rattle.lower_programs.proofs.Updating.{objects-stepped}
-use Rattle.lower_programs.proofs.places.objects_are_stepped.Goals as goal
-
-pub returns : goal.returns
-returns c = objects-stepped

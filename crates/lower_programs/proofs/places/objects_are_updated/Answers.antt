@@ -1,5 +1,0 @@
-use Rattle.lower_programs.proofs.Updating.{objects-updated}
-use Rattle.lower_programs.proofs.places.objects_are_updated.Goals as goal
-
-pub returns : goal.returns
-returns c = objects-updated

@@ -1,5 +1,0 @@
-use Rattle.lower_programs.proofs.Addressing.{indexes-addressed}
-use Rattle.lower_programs.proofs.pointers.indexes_are_addressed.Goals as goal
-
-pub returns : goal.returns
-returns c = indexes-addressed

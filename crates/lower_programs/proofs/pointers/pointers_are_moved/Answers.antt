@@ -1,5 +1,0 @@
-use Rattle.lower_programs.proofs.PointersUpdating.{pointers-moved}
-use Rattle.lower_programs.proofs.pointers.pointers_are_moved.Goals as goal
-
-pub returns : goal.returns
-returns c = pointers-moved

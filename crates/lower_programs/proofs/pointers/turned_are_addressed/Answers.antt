@@ -1,5 +1,0 @@
-use Rattle.lower_programs.proofs.Addressing.{turned-addressed}
-use Rattle.lower_programs.proofs.pointers.turned_are_addressed.Goals as goal
-
-pub returns : goal.returns
-returns c = turned-addressed

@@ -1,5 +1,0 @@
-use Rattle.lower_programs.proofs.First.{first-points-hold}
-use Rattle.lower_programs.proofs.settled.first_points_hold.Goals as goal
-
-pub returns : goal.returns
-returns c = first-points-hold

@@ -1,5 +1,0 @@
-use Rattle.lower_programs.proofs.Straight.{declarations-lower}
-use Rattle.lower_programs.proofs.statements_laws.declarations_lower.Goals as goal
-
-pub returns : goal.returns
-returns c = declarations-lower

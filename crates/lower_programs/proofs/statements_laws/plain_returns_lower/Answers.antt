@@ -1,5 +1,0 @@
-use Rattle.lower_programs.proofs.Straight.{plain-returns-lower}
-use Rattle.lower_programs.proofs.statements_laws.plain_returns_lower.Goals as goal
-
-pub returns : goal.returns
-returns c = plain-returns-lower

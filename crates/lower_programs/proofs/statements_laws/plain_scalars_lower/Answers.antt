@@ -1,5 +1,0 @@
-use Rattle.lower_programs.proofs.Declared.{plain-scalars-lower}
-use Rattle.lower_programs.proofs.statements_laws.plain_scalars_lower.Goals as goal
-
-pub returns : goal.returns
-returns c = plain-scalars-lower

@@ -1,5 +1,0 @@
-use Rattle.lower_programs.proofs.Straight.{returns-lower}
-use Rattle.lower_programs.proofs.statements_laws.returns_lower.Goals as goal
-
-pub returns : goal.returns
-returns c = returns-lower

@@ -1,5 +1,0 @@
-use Rattle.lower_programs.proofs.Walk.{statements-lower}
-use Rattle.lower_programs.proofs.statements_laws.statements_lower.Goals as goal
-
-pub returns : goal.returns
-returns c = statements-lower

@@ -1,4 +1,0 @@
-pub mod Known
-pub mod Naming
-pub mod Placing
-pub mod Words

@@ -1,5 +1,0 @@
-pub mod Kinds
-pub mod Finding
-pub mod Ways
-pub mod Rows
-pub mod Views

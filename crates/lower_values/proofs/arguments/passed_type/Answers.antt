@@ -1,5 +1,0 @@
-use Rattle.std.proofs.Common.{rules}
-use Rattle.lower_values.proofs.arguments.passed_type.Goals as goal
-
-pub returns-in-Integer : goal.returns-in-Integer
-returns-in-Integer c = search rules

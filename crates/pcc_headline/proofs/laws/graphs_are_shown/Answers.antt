@@ -1,5 +1,0 @@
-use Rattle.pcc_headline.proofs.Shown.{graphs-are-shown}
-use Rattle.pcc_headline.proofs.laws.graphs_are_shown.Goals as goal
-
-pub returns : goal.returns
-returns c = graphs-are-shown c.first_is_state.ensures c.step_keeps_state.ensures

@@ -1,6 +1,0 @@
--- The areas one by one.
-use Rattle.pcc_headline.proofs.Areas.{areas_are}
-use Rattle.pcc_headline.proofs.start.image_loads_text.Goals as goal
-
-pub returns-clause-memory : goal.returns-clause-memory
-returns-clause-memory c = areas_are

@@ -1,0 +1,23 @@
+//! The laws of compiled programs: each function's contract is one, and the function only cites those that it rests on.
+
+ghost use Rattle.pcc_program.specs.CompiledLaws.{CompiledDoesAs, GraphsAreShown};
+
+use crate::start::text_begins;
+use flow_graph::{first_is_state, step_keeps_state};
+
+/// Where the code of a program's graphs is right and the map is that of the code, the image of the code's text does
+/// what the program does, as the map shows it.
+pub fn compiled_does_as()
+    ensures { CompiledDoesAs }
+{
+    text_begins();
+}
+
+/// Where a map and an image belong to a program, the machine comes to a state that shows each one that the program's
+/// graphs come to: with variables, arrays and waiting calls in the places and at the addresses that the map has.
+pub fn graphs_are_shown()
+    ensures { GraphsAreShown }
+{
+    first_is_state();
+    step_keeps_state();
+}

@@ -1,4 +1,0 @@
-pub mod Ends
-pub mod SoFar
-pub mod Status
-pub mod Told

@@ -1,3 +1,0 @@
-pub mod Onward
-pub mod Fillings
-pub mod Orders

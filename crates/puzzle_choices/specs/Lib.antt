@@ -1,4 +1,0 @@
-pub mod Plans
-pub mod Onward
-pub mod Filling
-pub mod Orders

@@ -1,4 +1,0 @@
-pub mod OneText
-pub mod Lines
-pub mod Read
-pub mod Boards

@@ -1,6 +1,0 @@
-use Rattle.std.proofs.Common.{◌≡◌, take}
-use Rattle.puzzle_texts.specs.Texts.{lines_from}
-use Rattle.puzzle_texts.proofs.placement.print_placement.Given as goal
-
-abbrev pub invariant-loop-number : goal.invariant-loop-number
-invariant-loop-number g l = l.text.items ≡ lines_from 0 (take l.number l.board.pieces) l.board.states
