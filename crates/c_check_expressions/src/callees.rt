@@ -12,7 +12,9 @@ ghost use Rattle.c_check_expressions.specs.Said.{IsSaid};
 ghost use Rattle.c_check_expressions.specs.Callees.{parameters_of};
 
 use crate::arguments::Arguments;
-use crate::calls::{array_called, function_call, local_called, not_called, number_called, undeclared};
+use crate::calls::{
+    array_called, function_call, local_called, not_called, number_called, undeclared,
+};
 use crate::judged::{Judged, Operand};
 use crate::notes::Notes;
 use c_check_names::{Meaning, Scopes};

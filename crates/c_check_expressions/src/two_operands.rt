@@ -11,7 +11,9 @@ ghost use Rattle.c_check_expressions.specs.declared.two_operands.Joint.TheVarian
 
 use crate::constant::Constant;
 use crate::judged::{Judged, Operand, misfits};
-use crate::result_types::{of_conditions, of_difference, of_equality, of_numbers, of_order, of_sum};
+use crate::result_types::{
+    of_conditions, of_difference, of_equality, of_numbers, of_order, of_sum,
+};
 use c_syntax::BinaryOp as RawOp;
 use c_tree::{BinaryOp, Expression, ValueType};
 use pcc_base::{NoMemory, Span};

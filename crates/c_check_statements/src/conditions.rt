@@ -16,7 +16,9 @@ ghost use Rattle.c_check_expressions.specs.Maybe.{IsOperandIfAny, IsOperandWhere
 ghost use Rattle.c_check_declarations.specs.InitialValues.{IsTree};
 ghost use Rattle.c_check_declarations.specs.ItemAnswers.{IsTreeIfAny};
 
-use c_check_expressions::{Judged, Notes, Operand, assigned, expression, expression_if_any, selected, tested};
+use c_check_expressions::{
+    Judged, Notes, Operand, assigned, expression, expression_if_any, selected, tested,
+};
 use c_check_names::Scopes;
 use c_syntax::Expression;
 use c_tree::{Expression as Tree, ValueType};

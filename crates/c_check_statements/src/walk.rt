@@ -28,9 +28,15 @@ ghost use Rattle.c_check_statements.specs.Together.{joined};
 ghost use Rattle.c_check_statements.specs.Views.{around_of};
 
 use crate::around::Around;
-use crate::heads::{DoHead, ForHead, SwitchHead, TestHead, declared_head, do_head, for_head, switch_head, test_head};
-use crate::jumps::{break_statement, continue_statement, empty_statement, evaluated, return_statement};
-use crate::nodes::{Branch, block, do_loop, first_branch, for_loop, if_else, if_only, switch, while_loop};
+use crate::heads::{
+    DoHead, ForHead, SwitchHead, TestHead, declared_head, do_head, for_head, switch_head, test_head,
+};
+use crate::jumps::{
+    break_statement, continue_statement, empty_statement, evaluated, return_statement,
+};
+use crate::nodes::{
+    Branch, block, do_loop, first_branch, for_loop, if_else, if_only, switch, while_loop,
+};
 use crate::parts::{declared, joined};
 use c_check_declarations::{Position, declaration};
 use c_check_expressions::{Judged, Notes};

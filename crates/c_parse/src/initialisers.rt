@@ -12,7 +12,9 @@ ghost use Rattle.c_parse_expressions.specs.Values.{values_of, height_of_values};
 ghost use Rattle.c_parse.specs.Braces.{read_values};
 
 use c_lex::Punct;
-use c_parse_expressions::{Cursor, Height, Rule, Values, ValuesTurn, one_more, one_value, tree_below};
+use c_parse_expressions::{
+    Cursor, Height, Rule, Values, ValuesTurn, one_more, one_value, tree_below,
+};
 use c_syntax::{Initialiser, InitialiserPart};
 use pcc_base::{FaultKind, Refusal, Span};
 

@@ -10,7 +10,9 @@ ghost use Rattle.c_syntax.specs.Statements as trees;
 ghost use Rattle.c_syntax.specs.Statements.{stmt_of, stmts_of};
 ghost use Rattle.c_parse.specs.StatementParts.{for_of, labels_of, start_of, statements_of, tests_of};
 
-use crate::statement_parts::{Clause, Condition, DoTail, ForHead, ForStart, ForTests, LabelList, StatementList, SwitchHead};
+use crate::statement_parts::{
+    Clause, Condition, DoTail, ForHead, ForStart, ForTests, LabelList, StatementList, SwitchHead,
+};
 use c_parse_expressions::push;
 use c_syntax::{
     Declaration, DoParts, ForDeclarationParts, ForParts, IfElseParts, Statement, SwitchParts,

@@ -18,7 +18,9 @@ use crate::nodes::{
     block_node, declared_node, do_node, for_node, if_else_node, if_node, labelled_node, push_item,
     switch_node, while_node,
 };
-use crate::statement_parts::{Condition, StatementList, do_tail, for_head, no_item_height, parenthesised, switch_head};
+use crate::statement_parts::{
+    Condition, StatementList, do_tail, for_head, no_item_height, parenthesised, switch_head,
+};
 use c_lex::Punct;
 use c_parse_expressions::{Cursor, Height};
 use c_syntax::Statement;

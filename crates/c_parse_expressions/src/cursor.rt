@@ -10,7 +10,9 @@ ghost use Rattle.c_parse_expressions.specs.Places.{next_place, kind_without_heig
 
 use crate::casts::{begins_with_specifier, cast_at};
 use crate::kinds::is_mark;
-use crate::token_operators::{NO_LEVEL, assign_of, begins_expression, binary_of, is_word, level_of, step_of, unary_of};
+use crate::token_operators::{
+    NO_LEVEL, assign_of, begins_expression, binary_of, is_word, level_of, step_of, unary_of,
+};
 use c_lex::{Punct, Token};
 use c_syntax::{AssignOp, BinaryOp, StepOp, UnaryOp};
 use pcc_base::{Fault, FaultKind, Keyword, Refusal, Span};

@@ -4,7 +4,7 @@ ghost use Rattle.std.specs.Prelude.{◌≡◌, IfOk};
 ghost use Rattle.ia32_insn.specs.Items.{check_items, exit_items, getchar_items, putchar_items};
 
 use crate::start::{EXIT, SYSTEM};
-use ia32_insn::{AluOp, Insn, Item, Mem, Reg32, Rm32, Rm8};
+use ia32_insn::{AluOp, Insn, Item, Mem, Reg32, Rm8, Rm32};
 use pcc_base::NoMemory;
 use std::alloc::Global;
 

@@ -6,7 +6,7 @@ ghost use Rattle.ia32_asm.specs.Parts.{IsOperand};
 
 use crate::numbers::{byte_of, fits_byte, number8, number32};
 use arrayvec::ArrayVec;
-use ia32_insn::{Mem, Reg32, Rm32, Rm8};
+use ia32_insn::{Mem, Reg32, Rm8, Rm32};
 
 /// Appends the bytes.
 pub fn push_bytes(out: &mut ArrayVec<u8, 15>, bytes: &[u8])

@@ -12,8 +12,8 @@ mod assembly;
 mod fields;
 mod numbers;
 mod offsets;
-mod piece;
 mod opcode_bytes;
+mod piece;
 mod section;
 mod spelling;
 

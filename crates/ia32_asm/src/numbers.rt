@@ -4,7 +4,7 @@ ghost use Rattle.ia32_insn.specs.Spelling as numbers;
 ghost use Rattle.ia32_insn.specs.Preferred as preferred;
 ghost use Rattle.std.specs.Int.{w8, cast_unsigned};
 
-use ia32_insn::{AluOp, Cond, Reg32, Reg8, ShiftOp};
+use ia32_insn::{AluOp, Cond, Reg8, Reg32, ShiftOp};
 
 /// The number of a register of 32 bits.
 pub fn number32(r: Reg32) -> u8

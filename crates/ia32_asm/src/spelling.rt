@@ -8,7 +8,7 @@ ghost use Rattle.ia32_asm.specs.Parts.{IsInRange};
 use crate::numbers::{
     alu_number, byte_of, cond_number, fits_byte, number8, number32, shift_number,
 };
-use crate::opcode_bytes::{plain, row32, row8, row_memory, row_with};
+use crate::opcode_bytes::{plain, row_memory, row_with, row8, row32};
 use arrayvec::ArrayVec;
 use ia32_insn::{Insn, Rm32};
 

@@ -3,7 +3,7 @@
 ghost use Rattle.std.specs.Prelude.{◌≡◌};
 ghost use Rattle.ia32_insn.specs.Reading.{mov_from, mov8_from};
 
-use ia32_insn::{Insn, Reg32, Reg8, Rm32, Rm8};
+use ia32_insn::{Insn, Reg8, Reg32, Rm8, Rm32};
 
 /// MOV r32, r/m32, with the destination in the reg field.
 pub fn mov(to: Reg32, operand: Rm32) -> Insn

@@ -22,7 +22,7 @@ ghost use Rattle.ia32_insn.specs.Reading.{
 
 use crate::condition_numbers::shift_of;
 use crate::memory_fields::signed_at;
-use crate::operand_fields::{byte_at, fields32, fields8};
+use crate::operand_fields::{byte_at, fields8, fields32};
 use crate::{opcodes, two_byte};
 use ia32_insn::Insn;
 

@@ -22,7 +22,7 @@ ghost use Rattle.ia32_insn.specs.Reading.{
 use crate::condition_numbers::{byte_register_of, condition_of, operation_of, shift_of};
 use crate::moves::{mov, mov8};
 use crate::register_numbers::register_of;
-use ia32_insn::{AluOp, Insn, Reg32, Rm32, Rm8};
+use ia32_insn::{AluOp, Insn, Reg32, Rm8, Rm32};
 
 /// No fields: PUSH r32, POP r32, NOP, CDQ, RET, LEAVE.
 #[tactic(auto, unfolding(ia32_insn::specs::Reading::lone_insn))]

@@ -18,7 +18,7 @@ ghost use Rattle.ia32_insn.specs.Reading.{
 use crate::condition_numbers::condition_of;
 use crate::memory_fields::signed_at;
 use crate::opcodes;
-use crate::operand_fields::{fields32, fields8};
+use crate::operand_fields::{fields8, fields32};
 use ia32_insn::Insn;
 
 /// Jcc rel32, by the number of its condition and the bytes after the opcode.

@@ -10,7 +10,7 @@ ghost use Rattle.ia32_emit.specs.declared.locations.Location.TheVariants as loca
 use crate::instructions::{emit, emit_all, emit_three, emit_two};
 use crate::locations::{Location, at_offset, low_byte};
 use crate::moves::{emit_operate, emit_read};
-use ia32_insn::{AluOp, Cond, Insn, Item, Reg32, Rm32, Rm8};
+use ia32_insn::{AluOp, Cond, Insn, Item, Reg32, Rm8, Rm32};
 use pcc_base::NoMemory;
 
 /// CMP of two words, the first through ESI.

@@ -33,7 +33,9 @@ pub use comparisons::{emit_branch, emit_set};
 pub use instructions::{emit, emit_three, emit_two};
 pub use loads::{emit_get, emit_load};
 pub use locations::{Location, at_offset, at_register};
-pub use moves::{emit_commuting, emit_copy, emit_copy_byte, emit_number, emit_operate, emit_operation};
+pub use moves::{
+    emit_commuting, emit_copy, emit_copy_byte, emit_number, emit_operate, emit_operation,
+};
 pub use products::{emit_complement, emit_half, emit_low, emit_negation, emit_product};
 pub use prologues::emit_prologue;
 pub use returns::{emit_leave, emit_return};

@@ -9,7 +9,7 @@ use crate::instructions::{emit, emit_all};
 use crate::locations::{Location, at_register, target_of};
 use crate::moves::emit_write;
 use flow_graph::Bits;
-use ia32_insn::{Insn, Item, Mem, Reg32, Rm32, Rm8};
+use ia32_insn::{Insn, Item, Mem, Reg32, Rm8, Rm32};
 use pcc_base::NoMemory;
 
 /// An element to a register, one of fewer than 32 bits with its sign.

@@ -7,7 +7,7 @@ ghost use Rattle.ia32_rows.specs.Placements.{below};
 ghost use Rattle.ia32_rows.specs.Rows.{is_in, working, target_of, has_operand, low_byte};
 ghost use Rattle.ia32_emit.specs.Locations.{distance, place_of};
 
-use ia32_insn::{Mem, Reg32, Reg8};
+use ia32_insn::{Mem, Reg8, Reg32};
 
 /// Where a variable stands: in a register, in a byte of one, or in a slot at an offset from EBP, in bytes. An offset
 /// that isn't below EBP counts as 0.

@@ -9,7 +9,7 @@ ghost use Rattle.ia32_emit.specs.declared.locations.Location.TheVariants as loca
 
 use crate::instructions::{emit, emit_two};
 use crate::locations::{Location, at_offset, has_operand, is_same, working};
-use ia32_insn::{AluOp, Insn, Item, Reg32, Reg8, Rm32, Rm8};
+use ia32_insn::{AluOp, Insn, Item, Reg8, Reg32, Rm8, Rm32};
 use pcc_base::NoMemory;
 
 /// A register's word to another, unless they are one.

@@ -9,7 +9,7 @@ ghost use Rattle.ia32_emit.specs.declared.locations.Location.TheVariants as loca
 use crate::instructions::{emit, emit_two};
 use crate::locations::{Location, at_offset, low_byte, target_of, working};
 use crate::moves::{emit_copy, emit_copy_byte, emit_read, emit_write};
-use ia32_insn::{Insn, Item, Reg32, Reg8, Rm32, Rm8};
+use ia32_insn::{Insn, Item, Reg8, Reg32, Rm8, Rm32};
 use pcc_base::NoMemory;
 
 /// IMUL of a register by the word of a place.

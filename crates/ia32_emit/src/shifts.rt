@@ -10,9 +10,11 @@ ghost use Rattle.ia32_emit.specs.declared.locations.Location.TheVariants as loca
 
 use crate::divisions::{divisor_of, emit_before_division};
 use crate::instructions::emit;
-use crate::locations::{Location, at_offset, is_same, low_byte, number_of_byte, target_of, working};
+use crate::locations::{
+    Location, at_offset, is_same, low_byte, number_of_byte, target_of, working,
+};
 use crate::moves::{emit_read, emit_write};
-use ia32_insn::{Insn, Item, Reg32, Reg8, Rm32, Rm8, ShiftOp};
+use ia32_insn::{Insn, Item, Reg8, Reg32, Rm8, Rm32, ShiftOp};
 use pcc_base::NoMemory;
 
 /// The byte of a place to a register, with its sign.

@@ -12,7 +12,7 @@ use crate::instructions::{emit, emit_all, emit_three};
 use crate::locations::{Location, at_offset, at_register, low_byte, target_of};
 use crate::moves::{emit_read, emit_write};
 use flow_graph::Bits;
-use ia32_insn::{Insn, Item, Mem, Reg32, Reg8, Rm32, Rm8};
+use ia32_insn::{Insn, Item, Mem, Reg8, Reg32, Rm8, Rm32};
 use pcc_base::NoMemory;
 
 /// The address of the frame array whose element 0 stands at an offset from EBP.

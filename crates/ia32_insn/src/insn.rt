@@ -1,5 +1,5 @@
 use crate::operand::{Mem, Rm8, Rm32};
-use crate::register_names::{Reg32, Reg8};
+use crate::register_names::{Reg8, Reg32};
 
 /// An operation of two operands that sets the flags (Intel manual, volume 2: ADD, OR, AND, SUB, XOR,
 /// CMP).

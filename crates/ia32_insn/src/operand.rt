@@ -1,4 +1,4 @@
-use crate::register_names::{Reg32, Reg8};
+use crate::register_names::{Reg8, Reg32};
 
 /// A memory operand: the sum of a base register, an index register times 1, 2, 4 or 8, and a
 /// displacement (Intel manual, volume 1, section 3.7.5). ESP is no index.

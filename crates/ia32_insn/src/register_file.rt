@@ -9,7 +9,7 @@ ghost use Rattle.ia32_insn.specs.Registers.{
   AreRegisters,
 };
 
-use crate::register_names::{Reg32, Reg8};
+use crate::register_names::{Reg8, Reg32};
 use std::marker::Model;
 
 /// The eight general registers of 32 bits (Intel manual, volume 1, section 3.4.1). Contracts see their 32 bytes.

@@ -12,7 +12,7 @@ use crate::instructions::{
 };
 use crate::operands::low16;
 use crate::processor::Processor;
-use ia32_insn::{Cond, Insn, Reg32, Reg8};
+use ia32_insn::{Cond, Insn, Reg8, Reg32};
 use pcc_base::{Stop, Trap};
 
 /// The address so far from another, wrapped.

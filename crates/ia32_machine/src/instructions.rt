@@ -18,7 +18,7 @@ use crate::operations::alu;
 use crate::processor::Processor;
 use crate::whole_words::{negation, product, sign_word};
 use crate::{division, whole_words};
-use ia32_insn::{AluOp, Cond, Insn, Mem, Reg32, Reg8, Rm32, Rm8};
+use ia32_insn::{AluOp, Cond, Insn, Mem, Reg8, Reg32, Rm8, Rm32};
 use pcc_base::{Stop, Trap};
 
 /// MOV r32, m.

@@ -37,5 +37,5 @@ pub use laws::one_first;
 pub use machine::Machine;
 pub use operands::low16;
 pub use operations::alu;
-pub use whole_words::{complement, negation, product, sign_extend16, sign_extend8, sign_word};
+pub use whole_words::{complement, negation, product, sign_extend8, sign_extend16, sign_word};
 pub use words::{shift, with_low16};

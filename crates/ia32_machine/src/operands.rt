@@ -5,7 +5,7 @@ ghost use Rattle.ia32_machine.specs.Answers.{answer_of, Leaves};
 use crate::halt::Halt;
 use crate::processor::Processor;
 use crate::words::with_low16;
-use ia32_insn::{Mem, Reg32, Rm32, Rm8};
+use ia32_insn::{Mem, Reg32, Rm8, Rm32};
 
 /// The two lowest bytes of a word.
 #[inline]

@@ -8,7 +8,7 @@ ghost use Rattle.ia32_machine.specs.Answers.{answer_of, bare as bare_of, Leaves}
 ghost use Rattle.ia32_machine.specs.Loans.{ProcessorRests};
 
 use crate::halt::{Halt, denied};
-use ia32_insn::{Flags, Reg32, Reg8, RegFile};
+use ia32_insn::{Flags, Reg8, Reg32, RegFile};
 use ia32_memory::Memory;
 use std::marker::Model;
 

@@ -6,10 +6,16 @@ ghost use Rattle.ia32_rows.specs.Rows.{loop_label, row};
 ghost use Rattle.ia32_select.specs.Sites.{flow_of, placement_of};
 
 use crate::branches::branch;
-use crate::ops_by_number::{call, clear, commuting, difference, division, load, product, set, shift, store};
+use crate::ops_by_number::{
+    call, clear, commuting, difference, division, load, product, set, shift, store,
+};
 use crate::site::{Site, array_at, at};
 use flow_graph::Op;
-use ia32_emit::{emit, emit_complement, emit_copy, emit_exit, emit_frame_array, emit_get, emit_getchar, emit_half, emit_jump, emit_leave, emit_low, emit_negation, emit_number, emit_param, emit_put, emit_putchar, emit_return, emit_same, emit_static, emit_wide};
+use ia32_emit::{
+    emit, emit_complement, emit_copy, emit_exit, emit_frame_array, emit_get, emit_getchar,
+    emit_half, emit_jump, emit_leave, emit_low, emit_negation, emit_number, emit_param, emit_put,
+    emit_putchar, emit_return, emit_same, emit_static, emit_wide,
+};
 use ia32_insn::{AluOp, Insn, Item, Reg32, ShiftOp};
 use pcc_base::NoMemory;
 

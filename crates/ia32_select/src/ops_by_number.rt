@@ -10,7 +10,10 @@ ghost use Rattle.ia32_select.specs.Sites.{flow_of, place_of_variable};
 use crate::arrays::emit_clear;
 use crate::site::{Site, all_at, any_at, array_at, array_of, at, loop_label};
 use flow_graph::{Bits, Comparison, Words};
-use ia32_emit::{emit_call, emit_commuting, emit_division, emit_load, emit_operation, emit_product, emit_set, emit_shift, emit_store};
+use ia32_emit::{
+    emit_call, emit_commuting, emit_division, emit_load, emit_operation, emit_product, emit_set,
+    emit_shift, emit_store,
+};
 use ia32_insn::{AluOp, Item, Reg32, ShiftOp};
 use pcc_base::NoMemory;
 

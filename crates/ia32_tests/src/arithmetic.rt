@@ -3,7 +3,10 @@
 
 use crate::expected::expect;
 use ia32_insn::{AluOp, Cond, Flags, ShiftOp};
-use ia32_machine::{alu, complement, divide, divide_signed, holds, negation, product, shift, sign_extend16, sign_extend8, sign_word, with_low16};
+use ia32_machine::{
+    alu, complement, divide, divide_signed, holds, negation, product, shift, sign_extend8,
+    sign_extend16, sign_word, with_low16,
+};
 use std::process::Abort;
 
 /// CF, ZF, SF and OF.

@@ -3,7 +3,7 @@
 ghost use Rattle.std.specs.Prelude.{◌≡◌};
 
 use crate::expected::expect;
-use ia32_insn::{Reg32, Reg8, RegFile};
+use ia32_insn::{Reg8, Reg32, RegFile};
 use std::process::Abort;
 
 /// Registers, and their lowest byte and the one above it.

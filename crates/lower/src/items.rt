@@ -17,7 +17,9 @@ ghost use Rattle.lower_builder.specs.Sites.{context_of};
 use c_tree::{Expression, First, Initialiser, IntegerType, Item};
 use flow_graph::Op;
 use lower_builder::{Lines, Site, Wanted};
-use lower_expressions::{assign_local, clear_array, copy_text, emit, reads_none, stood, store_element, zero};
+use lower_expressions::{
+    assign_local, clear_array, copy_text, emit, reads_none, stood, store_element, zero,
+};
 use pcc_base::NoMemory;
 
 /// A local takes the value of its initialiser.

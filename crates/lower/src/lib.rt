@@ -27,6 +27,8 @@ pub use graphs::Graphs;
 pub use items::{first_part, item};
 pub use labels::{Starts, cases_of, otherwise_of, start_labelled, starts_of};
 pub use lowered::graph;
-pub use parts::{close_for, evaluated, go, is_nothing, open_for, open_if, open_while, return_value, start_second};
+pub use parts::{
+    close_for, evaluated, go, is_nothing, open_for, open_if, open_while, return_value, start_second,
+};
 pub use program::lower;
 pub use walk::{sequence, statement};

@@ -10,7 +10,9 @@ ghost use Rattle.lower_expressions.specs.Views.{after_of, exits_of};
 
 use crate::items::item;
 use crate::labels::start_labelled;
-use crate::parts::{close_for, evaluated, go, is_nothing, open_for, open_if, open_while, return_value, start_second};
+use crate::parts::{
+    close_for, evaluated, go, is_nothing, open_for, open_if, open_while, return_value, start_second,
+};
 use crate::started_blocks::next_after;
 use crate::switches::{open_body, open_switch};
 use crate::turns::{again, close_do, open_do};

@@ -21,7 +21,10 @@ ghost use Rattle.lower_expressions.specs.Rows.{number_op, renewing};
 use crate::leaves::local;
 use c_tree::{BinaryOp, IntegerType, ValueType};
 use flow_graph::Op;
-use lower_builder::{Lines, Site, Spot, Wanted, bits_of, computing, converting, copied, number_test, plus, target, tested_number};
+use lower_builder::{
+    Lines, Site, Spot, Wanted, bits_of, computing, converting, copied, number_test, plus, target,
+    tested_number,
+};
 use pcc_base::NoMemory;
 
 /// An op on one number.

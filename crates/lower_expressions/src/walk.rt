@@ -25,12 +25,18 @@ use crate::found::Found;
 use crate::kinds::{is_simple, number_type, part_type, stands};
 use crate::leaves::{constant, if_stays, local, local_operand, start};
 use crate::names::{set_local, set_object};
-use crate::operands::{NumberOp, byte_set, exit_with, getchar, load_old, narrow_made, number_made, put, renew, store, stored};
+use crate::operands::{
+    NumberOp, byte_set, exit_with, getchar, load_old, narrow_made, number_made, put, renew, store,
+    stored,
+};
 use crate::places::{element_at, read_found, step_found};
 use crate::ways::{Ways, end_ways, join, open_ways, own_blocks, start_joined};
 use c_tree::{ArrayRef, BinaryOp, Expression, IntegerType, Place, UnaryOp, ValueType};
 use flow_graph::Words;
-use lower_builder::{Lines, Site, Spot, Wanted, applied, end_truth, null_pointer, object, passed_type, plus, push_words};
+use lower_builder::{
+    Lines, Site, Spot, Wanted, applied, end_truth, null_pointer, object, passed_type, plus,
+    push_words,
+};
 use pcc_base::NoMemory;
 
 /// The lines of an expression, for what is wanted of it.
