@@ -19,7 +19,7 @@ path-then : (xs ys : List ℕ) (s t u : machine.State) → Path xs s t → Path 
 path-then [] ys s t u path next = subst (λ (v : machine.State). Path ys v u) (sym path) next
 path-then (x ∷ xs) ys s t u (v, at, one, path) next = (v, at, one, path-then xs ys v t u path next)
 
-none-some : (g : graph.State) → None {A = graph.State} ≡ Some g → ⊥
+none-some : (g : graph.State) → ◌≡◌ {A = Option graph.State} None (Some g) → ⊥
 none-some g e = cc
 
 some-same : (g h : graph.State) → Some g ≡ Some h → g ≡ h
