@@ -1,5 +1,5 @@
 -- Both sections can be linked, and each function has points.
-use Rattle.std.proofs.Common.{refl, ap, arith, length, false}
+use Rattle.std.proofs.Common.{refl, ap, arith, length, false, true}
 use Rattle.ia32_asm.specs.declared.section.Target.TheVariants as target
 use Rattle.ia32_tests.proofs.Example.{any_link, points_low, no_points_low}
 use Rattle.ia32_tests.proofs.linking.words_of_any_sections.Goals as goal
