@@ -15,6 +15,7 @@ use crate::given_slots::spill_all;
 use crate::piece_places::{places_of, put_fixed, put_pieces};
 use crate::point_pieces::pieces_of;
 use crate::solution::solve_point;
+use crate::stood::Stood;
 use flow_liveness::Distances;
 use pcc_base::NoMemory;
 use puzzle_board::PointMap;
@@ -28,6 +29,7 @@ fn allocate_point(
     point: u32,
     map: &mut PointMap,
     given: &mut u32,
+    stood: &mut Stood,
 ) -> Result<(), NoMemory>
     requires distances { AreDistances form.now.graph distances.now }
     requires placed { IsPlaced form.now.graph point }
@@ -42,7 +44,7 @@ fn allocate_point(
     form.live().is_lives();
     let op = form.graph().op(point);
     let pieces = pieces_of(alloc, form, point)?;
-    let solution = solve_point(alloc, form, distances, point, op, &pieces)?;
+    let solution = solve_point(alloc, form, distances, point, op, &pieces, stood)?;
     spill_all(map, point, &solution.spilled, given)?;
     let places = places_of(alloc, map, &pieces, &solution.spots)?;
     put_pieces(map, point, &pieces, &places)?;
@@ -57,6 +59,7 @@ fn allocate_next(
     point: u32,
     map: &mut PointMap,
     given: &mut u32,
+    stood: &mut Stood,
 ) -> Result<(), NoMemory>
     requires distances { AreDistances form.now.graph distances.now }
     requires few { length form.now.graph.widths < 536870908 }
@@ -66,7 +69,8 @@ fn allocate_next(
     ensures count { OnOk result (given.new ≡ slots_given map.new.slots) }
 {
     if form.is_placed(point) {
-        return allocate_point(alloc, form, distances, point, map, given);
+        stood.go_to(form, map, point);
+        return allocate_point(alloc, form, distances, point, map, given, stood);
     }
     Ok(())
 }
@@ -74,7 +78,8 @@ fn allocate_next(
 /// Where each variable stands before and after each point of a graph (Quintão Pereira and Palsberg, "Register
 /// Allocation by Puzzle Solving", PLDI 2008). Each point is a board of its own: of its variables those are spilled that
 /// come first in the spill order, as few as leave a board that is solvable, and they stand in their slots there; the
-/// others stand in registers. A variable has a slot only if it is spilled at some point. Each point is gone to once, and
+/// others stand in registers, where they stood before as far as the board allows. A variable has a slot only if it is
+/// spilled at some point. Each point is gone to once, and
 /// what is asked of its variables is found by binary search.
 ///
 /// # Errors
@@ -93,9 +98,12 @@ pub fn allocate(
     form.is_form();
     let graph = form.graph();
     let mut map = PointMap::new(alloc, graph.points(), graph.vars(), 0)?;
+    let mut stood = Stood::new(alloc, graph)?;
     let mut given = 0;
     for point in 0..graph.points() {
-        allocate_next(alloc, form, distances, point, &mut map, &mut given)?;
+        allocate_next(
+            alloc, form, distances, point, &mut map, &mut given, &mut stood,
+        )?;
     }
     map.set_frame(16 + 4 * given + bytes_of_arrays(graph));
     Ok(map)

@@ -7,8 +7,8 @@
 //! memory.
 //!
 //! `elementary` makes the form. `point_board`, `point_pieces`, `variable_pieces`, `registers` and `fixed` have the
-//! board of a point, `solution` solves it, `candidates` tells what may be spilled, `spots` and `piece_places` where
-//! pieces stand, and `slot_offsets` and `given_slots` have slots.
+//! board of a point, `solution` solves it, `stood` says where pieces are wanted, `candidates` tells what may be spilled,
+//! `spots` and `piece_places` where pieces stand, and `slot_offsets` and `given_slots` have slots.
 #![tactic(auto)]
 
 mod allocation;
@@ -27,6 +27,7 @@ mod registers;
 mod slot_offsets;
 mod solution;
 mod spots;
+mod stood;
 mod variable_pieces;
 mod variables;
 mod worked_laws;

@@ -10,14 +10,16 @@ ghost use Rattle.allocator.specs.Spills.{HasPiece, IsSpilledAt};
 
 use crate::candidates::candidates_of;
 use crate::elementary::Elementary;
+use crate::fixed::fixed_result;
 use crate::given_board::board_with;
 use crate::registers::areas_of;
 use crate::spots::spots_on;
+use crate::stood::Stood;
 use flow_graph::Op;
 use flow_liveness::Distances;
 use pcc_base::{NoMemory, Steps};
 use puzzle_board::{Piece, Spot};
-use puzzle_solver::{fit, spill_order};
+use puzzle_solver::{fit_near, spill_order};
 use std::alloc::Global;
 use std::marker::Brand;
 use std::sync::ledger::{Blank, Ledger};
@@ -37,6 +39,7 @@ fn solve_counted<L: Ledger>(
     point: u32,
     op: &Op,
     pieces: &[Piece],
+    stood: &mut Stood,
     blank: Blank,
 ) -> Result<Solution, NoMemory>
     requires distances { AreDistances form.now.graph distances.now }
@@ -54,12 +57,15 @@ fn solve_counted<L: Ledger>(
     let order = spill_order(alloc, &candidates)?;
     let mut board = board_with::<L>(alloc, &areas_of(op), pieces)?;
     let mut steps = Steps::<L>::new(blank);
-    let spilled = fit(alloc, &mut board, &order, &mut steps)?;
+    let hints = stood.hints(alloc, op, pieces)?;
+    let spilled = fit_near(alloc, &mut board, &order, &hints, &mut steps)?;
     let spots = spots_on(alloc, &board, &mut steps)?;
+    stood.remember(pieces, &spots, fixed_result(op));
     Ok(Solution { spilled, spots })
 }
 
-/// Solves a point's board, of which these are the pieces, with as few variables spilled as the spill order allows.
+/// Solves a point's board, of which these are the pieces, with as few variables spilled as the spill order allows, and
+/// near to where the variables stood.
 pub fn solve_point(
     alloc: Global,
     form: &Elementary,
@@ -67,6 +73,7 @@ pub fn solve_point(
     point: u32,
     op: &Op,
     pieces: &[Piece],
+    stood: &mut Stood,
 ) -> Result<Solution, NoMemory>
     requires distances { AreDistances form.now.graph distances.now }
     requires few { length pieces.now ≤ 4294967295 }
@@ -76,5 +83,14 @@ pub fn solve_point(
     ensures of_pieces { IfOk result (λ s. AllByRecursion (HasPiece pieces.now) s.spilled.items) }
     ensures spots { IfOk result (λ s. AreSpots (boards.areas_of op.now) pieces.now s.spilled.items s.spots.items) }
 {
-    solve_counted::<Brand>(alloc, form, distances, point, op, pieces, Blank::new(1))
+    solve_counted::<Brand>(
+        alloc,
+        form,
+        distances,
+        point,
+        op,
+        pieces,
+        stood,
+        Blank::new(1),
+    )
 }

@@ -1,7 +1,8 @@
 ghost use Rattle.std.specs.Prelude.{◌≡◌, ◌≢◌, ◌<◌, ◌≤◌, ◌+◌, length, slice_get, Some, MatchOption, MatchResult, ⊤};
 ghost use Rattle.std.specs.Prelude.{[]};
 ghost use Rattle.std.specs.List.{AllByRecursion};
-ghost use Rattle.puzzle_board.specs.Boards.{IsAreaOf, IsBoard, IsPlaceable, IsUnplacedOf, area_count, board_of};
+ghost use Rattle.puzzle_board.specs.declared.piece.Piece.{Piece};
+ghost use Rattle.puzzle_board.specs.Boards.{IsAreaOf, IsBoard, IsPlaceable, IsUnplaced, IsUnplacedOf, area_count, board_of};
 ghost use Rattle.puzzle_board.specs.Boards.{free_areas, piece_count, spot_of, standing, with_none_placed};
 ghost use Rattle.puzzle_board.specs.Boards.{with_piece, with_spot, without_variable};
 
@@ -176,6 +177,21 @@ impl<L: Ledger> Board<L> {
     {
         steps.tick();
         self.pieces[piece as usize]
+    }
+
+    /// A piece by its number, as long as it is neither placed nor removed.
+    pub fn waiting(&self, piece: u32, steps: &mut Steps<L>) -> Option<Piece>
+        requires { piece < length self.now.pieces }
+        ensures found { MatchOption result
+            ((p : Piece) → ¬ IsUnplaced self.now piece p)
+            (λ p. IsUnplaced self.now piece p) }
+        ensures ticks { steps.new ≡ steps.old + 1 }
+    {
+        steps.tick();
+        match self.states[piece as usize] {
+            State::Unplaced => Some(self.pieces[piece as usize]),
+            State::At(_) | State::Removed => None,
+        }
     }
 
     /// Puts an unplaced piece on free cells.

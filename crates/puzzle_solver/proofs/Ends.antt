@@ -27,7 +27,7 @@ use Rattle.puzzle_solver.proofs.Worths.{lower-worth, lower-worth-most, upper-wor
 -- ---- where nothing stands
 
 -- what isn't removed is unplaced
-unplaced-remaining :
+pub unplaced-remaining :
     (pieces : List Piece) (states : List State) → standing_in pieces states ≡ []
     → remaining_in pieces states ≡ unplaced_in pieces states
 unplaced-remaining [] states none = refl
@@ -41,18 +41,18 @@ unplaced-remaining (p ∷ pieces) (Removed ∷ states) none = unplaced-remaining
 pub all-free : (board : Puzzle) → standing board ≡ [] → free_areas board ≡ board.areas
 all-free board none = ap (λ placed. clear_all board.areas placed) none
 
--- a solvable board keeps the bounds, in the numbers that were counted
-pub counted-bounded :
+-- bounds that the board keeps, in the numbers that were counted
+pub counted-kept :
     (board : Puzzle) (a : AreaCounts) (p : PieceCounts) → standing board ≡ [] → AreasAre board a → PiecesAre board p
-    → IsSolvable board.areas (remaining board) → IsBounded (numbers a p)
-counted-bounded board a p none areas pieces solvable =
+    → IsBounded (counts_of board.areas (remaining board)) → IsBounded (numbers a p)
+counted-kept board a p none areas pieces kept =
     let bounded = subst
     (λ (free : List Area). IsBounded (counts_of free (unplaced board)))
     (sym (all-free board none))
     (subst
     (λ (ps : List Piece). IsBounded (counts_of board.areas ps))
     (unplaced-remaining board.pieces board.states none)
-    (solvable_is_bounded board.areas (remaining board) solvable)) in
+    kept) in
     record {
       wide_y = omega (arith, bounded.wide_y);
       wide_yx = omega (arith, bounded.wide_yx);
@@ -66,6 +66,39 @@ counted-bounded board a p none areas pieces solvable =
       upper = omega (arith, bounded.upper);
       lower = omega (arith, bounded.lower);
     }
+
+-- and the other way round
+pub kept-counted :
+    (board : Puzzle) (a : AreaCounts) (p : PieceCounts) → standing board ≡ [] → AreasAre board a → PiecesAre board p
+    → IsBounded (numbers a p) → IsBounded (counts_of board.areas (remaining board))
+kept-counted board a p none areas pieces bounded =
+    let now : IsBounded (counts_of (free_areas board) (unplaced board)) = record {
+      wide_y = omega (arith, bounded.wide_y);
+      wide_yx = omega (arith, bounded.wide_yx);
+      wide_yz = omega (arith, bounded.wide_yz);
+      y = omega (arith, bounded.y);
+      y_wide_x = omega (arith, bounded.y_wide_x);
+      y_wide_z = omega (arith, bounded.y_wide_z);
+      y_wide = omega (arith, bounded.y_wide);
+      y_both_x = omega (arith, bounded.y_both_x);
+      y_both_z = omega (arith, bounded.y_both_z);
+      upper = omega (arith, bounded.upper);
+      lower = omega (arith, bounded.lower);
+    } in
+    subst
+    (λ (free : List Area). IsBounded (counts_of free (remaining board)))
+    (all-free board none)
+    (subst
+    (λ (ps : List Piece). IsBounded (counts_of (free_areas board) ps))
+    (sym (unplaced-remaining board.pieces board.states none))
+    now)
+
+-- a solvable board keeps the bounds, in the numbers that were counted
+pub counted-bounded :
+    (board : Puzzle) (a : AreaCounts) (p : PieceCounts) → standing board ≡ [] → AreasAre board a → PiecesAre board p
+    → IsSolvable board.areas (remaining board) → IsBounded (numbers a p)
+counted-bounded board a p none areas pieces solvable =
+    counted-kept board a p none areas pieces (solvable_is_bounded board.areas (remaining board) solvable)
 
 -- ---- where everything stands
 

@@ -11,3 +11,4 @@ pub mod OneText
 pub mod Lines
 pub mod Read
 pub mod Boards
+pub mod Hinted

@@ -8,3 +8,4 @@ pub mod Solved
 pub mod Prefixes
 pub mod Texts
 pub mod Reading
+pub mod Near

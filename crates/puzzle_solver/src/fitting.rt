@@ -5,7 +5,7 @@ ghost use Rattle.puzzle_board.specs.Classes.{IsAmong};
 ghost use Rattle.puzzle_solver.specs.Solved.{IsSolved};
 ghost use Rattle.puzzle_solver.specs.Prefixes.{IsShortest, without_variables};
 
-use crate::solving::solve;
+use crate::near::fit_near;
 use pcc_base::{NoMemory, Steps};
 use puzzle_board::Board;
 use std::alloc::Global;
@@ -29,14 +29,5 @@ pub fn fit<L: Ledger>(
     ensures solved { IfOk result (λ removed. IsSolved (without_variables board.old removed.items) board.new) }
     ensures unchanged { IfErr result (λ _. board.new ≡ board.old) }
 {
-    let mut removed = Vec::with_capacity(alloc, order.len())?;
-    for i in 0..order.len() {
-        if solve(board, steps) {
-            return Ok(removed);
-        }
-        board.remove_var(order[i]);
-        removed.push_reserved(order[i]);
-    }
-    solve(board, steps);
-    Ok(removed)
+    fit_near(alloc, board, order, &[], steps)
 }

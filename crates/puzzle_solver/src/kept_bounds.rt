@@ -9,7 +9,7 @@ use puzzle_board::{AreaKind, Board, Kind};
 use std::sync::ledger::Ledger;
 
 /// Counts the areas of a board.
-pub(crate) fn areas_of<L: Ledger>(board: &Board<L>, steps: &mut Steps<L>) -> AreaCounts
+pub fn areas_of<L: Ledger>(board: &Board<L>, steps: &mut Steps<L>) -> AreaCounts
     ensures value { AreasAre board.now result }
     ensures ticks { steps.new ≡ steps.old + 9 }
 {
@@ -27,7 +27,7 @@ pub(crate) fn areas_of<L: Ledger>(board: &Board<L>, steps: &mut Steps<L>) -> Are
 }
 
 /// Counts the pieces of a board that are neither placed nor removed.
-pub(crate) fn pieces_of<L: Ledger>(board: &Board<L>, steps: &mut Steps<L>) -> PieceCounts
+pub fn pieces_of<L: Ledger>(board: &Board<L>, steps: &mut Steps<L>) -> PieceCounts
     ensures value { PiecesAre board.now result }
     ensures ticks { steps.new ≡ steps.old + 6 }
 {
@@ -87,7 +87,7 @@ fn keeps_cells(areas: AreaCounts, pieces: PieceCounts) -> bool
 }
 
 /// The counts keep the bounds of a solvable board.
-pub(crate) fn is_bounded(areas: AreaCounts, pieces: PieceCounts) -> bool
+pub fn is_bounded(areas: AreaCounts, pieces: PieceCounts) -> bool
     ensures { IsTrue result ↔ IsBounded (numbers areas pieces) }
 {
     keeps_wide(areas, pieces) && keeps_columns(areas, pieces) && keeps_cells(areas, pieces)

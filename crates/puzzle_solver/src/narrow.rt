@@ -21,7 +21,7 @@ pub(crate) struct Waiting {
 }
 
 /// A piece of this kind and of width One fits in the column.
-fn fits(kind: Kind, column: Column) -> bool
+pub(crate) fn fits(kind: Kind, column: Column) -> bool
     ensures { result ≡ fits_column kind column }
 {
     match (kind, column) {

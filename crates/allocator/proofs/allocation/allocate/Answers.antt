@@ -2,8 +2,19 @@ use Rattle.std.proofs.Common.{◌≡◌, ◌∙◌, ◌+◌, ◌*◌, ℕ, lengt
 use Rattle.flow_graph.specs.Graphs.{Flow}
 use Rattle.allocator.specs.PointMaps.{bytes_of_arrays}
 use Rattle.allocator.specs.Progress.{IsDoneTo}
-use Rattle.allocator.proofs.Doing.{is-allocation, is-legal}
+use Rattle.allocator.proofs.Doing.{done-first, is-allocation, is-legal, none-count}
 use Rattle.allocator.proofs.allocation.allocate.Goals as goal
+
+pub loop-point-init : goal.loop-point-init
+loop-point-init c =
+    let form = c.args.form.now in
+    record {
+      done =
+          done-first form c.vars.result c.points.result c.in_ok-map.map c.in_ok-map.ensures
+          (c.points.ensures ∙ ap (λ (f : Flow). length f.ops) c.graph-graph.ensures)
+          (c.vars.ensures ∙ ap (λ (f : Flow). length f.widths) c.graph-graph.ensures);
+      count = none-count c.vars.result c.in_ok-map.map c.points.result 0 c.in_ok-map.ensures;
+    }
 
 pub returns-clause-allocated : goal.returns-clause-allocated
 returns-clause-allocated c =

@@ -17,12 +17,12 @@ use Rattle.allocator.proofs.Listing.{candidates-are}
 use Rattle.allocator.proofs.Solving.{nothing-stands, pieces-ordered, spilled-pieces, spots-are}
 use Rattle.allocator.proofs.solution.solve_counted.Goals as goal
 
-pub fit-requires-clause-unplaced : goal.fit-requires-clause-unplaced
-fit-requires-clause-unplaced g c =
+pub fit_near-requires-clause-unplaced : goal.fit_near-requires-clause-unplaced
+fit_near-requires-clause-unplaced g c =
     ap standing c.in_ok-board.ensures ∙ nothing-stands c.areas_of.result c.args.pieces.now
 
-pub fit-requires-clause-ordered : goal.fit-requires-clause-ordered
-fit-requires-clause-ordered g c =
+pub fit_near-requires-clause-ordered : goal.fit_near-requires-clause-ordered
+fit_near-requires-clause-ordered g c =
     let pieces : List Piece = c.args.pieces.now in
     let areas : List Area = c.areas_of.result in
     let cs : List Candidate = c.in_ok-candidates.candidates.items in
@@ -84,5 +84,5 @@ returns-clause-spots g c =
     c.in_ok-board.ensures ∙ ap (λ (a : List Area). puzzle_of a pieces) c.areas_of.ensures in
     subst (λ (ss : List (Option Spot)). AreSpots (areas_of op) pieces spilled ss) (sym c.in_ok-spots.ensures)
     (spots-are (areas_of op) pieces spilled _
-    (subst (λ (b : Puzzle). IsSolved (without_variables b spilled) c.fit.new.board) board-is
+    (subst (λ (b : Puzzle). IsSolved (without_variables b spilled) c.fit_near.new.board) board-is
     c.in_ok-spilled.ensures.solved))

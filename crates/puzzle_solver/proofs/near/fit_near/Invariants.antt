@@ -1,6 +1,6 @@
 use Rattle.std.proofs.Common.{◌≤◌, length, vec_capacity}
 use Rattle.puzzle_solver.proofs.Spilling.{SoFar}
-use Rattle.puzzle_solver.proofs.fitting.fit.Given as goal
+use Rattle.puzzle_solver.proofs.near.fit_near.Given as goal
 
 abbrev pub invariant-loop-i : goal.invariant-loop-i
 invariant-loop-i g l =
