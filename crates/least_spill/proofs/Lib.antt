@@ -1,0 +1,7 @@
+pub mod Exchange
+pub mod Choices
+pub mod Removals
+pub mod Single
+pub mod Taking
+pub mod Ordered
+pub mod NoFewer

@@ -1,0 +1,3 @@
+pub mod Least
+pub mod Most
+pub mod Removing
