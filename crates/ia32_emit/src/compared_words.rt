@@ -1,6 +1,6 @@
 //! Comparisons of two words where they stand, the number that a condition gives, and jumps.
 
-ghost use Rattle.std.specs.Prelude.{◌≡◌, ◌++◌, OnOk};
+ghost use Rattle.std.specs.Prelude.{◌≡◌, ◌++◌, [], OnOk};
 ghost use Rattle.ia32_insn.specs.declared.insn.AluOp.TheVariants as alu;
 ghost use Rattle.ia32_insn.specs.declared.register_names.Reg32.TheVariants.{Esi};
 ghost use Rattle.ia32_rows.specs.Rows.{operate, read, comparing, set_row, jumping, same_row};
@@ -88,9 +88,9 @@ pub fn emit_truth(out: &mut Vec<Item>, condition: Cond, to: Location) -> Result<
     }
 }
 
-/// To a label.
+/// To a label, with nothing to move on the way.
 pub fn emit_jump(out: &mut Vec<Item>, label: u32) -> Result<(), NoMemory>
-    ensures { OnOk result (out.new.items ≡ out.old.items ++ jumping label) }
+    ensures { OnOk result (out.new.items ≡ out.old.items ++ jumping [] label) }
 {
     emit_all(out, &[Item::JumpTo(label)])
 }

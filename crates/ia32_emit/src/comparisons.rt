@@ -1,6 +1,6 @@
 //! The rows of ops that go by a comparison.
 
-ghost use Rattle.std.specs.Prelude.{◌≡◌, ◌++◌, OnOk};
+ghost use Rattle.std.specs.Prelude.{◌≡◌, ◌++◌, [], OnOk};
 ghost use Rattle.ia32_rows.specs.Rows.{cond_of, setting, branching};
 ghost use Rattle.ia32_emit.specs.Locations.{place_of};
 
@@ -40,7 +40,7 @@ pub fn emit_set(
     emit_truth(out, cond_of(how), to)
 }
 
-/// To one label where two words compare so, to the other where they don't.
+/// To one label where two words compare so, to the other where they don't, with nothing to move on the way to either.
 pub fn emit_branch(
     out: &mut Vec<Item>,
     how: Comparison,
@@ -50,7 +50,7 @@ pub fn emit_branch(
     other: u32,
 ) -> Result<(), NoMemory>
     ensures { OnOk result (out.new.items
-        ≡ out.old.items ++ branching how (place_of first) (place_of second) taken other) }
+        ≡ out.old.items ++ branching how 0 (place_of first) (place_of second) [] [] taken other) }
 {
     emit_compare(out, first, second)?;
     emit_all(

@@ -1,16 +1,15 @@
 //! The first items of a function.
 
-ghost use Rattle.std.specs.Prelude.{◌≡◌, ◌∷◌, [], ◌++◌, pos, OnOk};
+ghost use Rattle.std.specs.Prelude.{◌≡◌, ◌∷◌, [], ◌++◌, nat_lt, OnOk};
 ghost use Rattle.ia32_insn.specs.Items.{plain};
 ghost use Rattle.ia32_insn.specs.declared.insn.Insn.TheVariants as insn;
 ghost use Rattle.ia32_insn.specs.declared.operand.Rm32.TheVariants as rm;
 ghost use Rattle.ia32_insn.specs.declared.register_names.Reg32.TheVariants as reg;
-ghost use Rattle.ia32_rows.specs.Rows.{prologue};
+ghost use Rattle.ia32_rows.specs.Rows.{prologue, zeroing};
 ghost use Rattle.ia32_rows.specs.Filling.{fill};
-ghost use Rattle.ia32_rows.specs.Placements.{below};
 ghost use Rattle.ia32_emit.specs.Locations.{distance};
 
-use crate::instructions::{emit_all, emit_three};
+use crate::instructions::{emit, emit_all, emit_two};
 use crate::locations::{at_offset, at_register};
 use ia32_insn::{AluOp, Cond, Insn, Item, Reg32, Rm32};
 use pcc_base::NoMemory;
@@ -56,26 +55,40 @@ fn emit_saves(out: &mut Vec<Item>) -> Result<(), NoMemory>
     )
 }
 
-/// ESP to the end of the frame, 0 to ESI, and EDI to the words that are kept.
-fn emit_frame(out: &mut Vec<Item>, frame: i32) -> Result<(), NoMemory>
-    ensures { OnOk result (out.new.items ≡ out.old.items
-        ++ plain (insn.Lea reg.Esp (below (distance frame))) ∷ plain (insn.MovImm (rm.Reg reg.Esi) (pos 0))
-        ∷ plain (insn.Lea reg.Edi (below 12)) ∷ []) }
+/// Whether the words below an offset reach further below EBP than those below another.
+fn is_further(offset: i32, than: i32) -> bool
+    ensures { result ≡ nat_lt (distance than) (distance offset) }
 {
-    emit_three(
-        out,
-        Insn::Lea(Reg32::Esp, at_offset(frame)),
-        Insn::MovImm(Rm32::Reg(Reg32::Esi), 0),
-        Insn::Lea(Reg32::Edi, at_offset(-12)),
-    )
+    offset < 0 && offset < than
 }
 
-/// Makes the frame, keeps the caller's registers in it, and clears every word below these by a loop with this label;
-/// ESP goes to the offset of the frame's end.
-pub fn emit_prologue(out: &mut Vec<Item>, frame: i32, label: u32) -> Result<(), NoMemory>
-    ensures { OnOk result (out.new.items ≡ out.old.items ++ prologue (distance frame) label) }
+/// Makes the words from the offset of ESP up to another offset 0, where there are any, by a loop with this label.
+fn emit_zeroing(out: &mut Vec<Item>, frame: i32, zeroed: i32, label: u32) -> Result<(), NoMemory>
+    ensures { OnOk result (out.new.items ≡ out.old.items ++ zeroing (distance frame) (distance zeroed) label) }
+{
+    if is_further(frame, zeroed) {
+        emit_two(
+            out,
+            Insn::MovImm(Rm32::Reg(Reg32::Esi), 0),
+            Insn::Lea(Reg32::Edi, at_offset(zeroed)),
+        )?;
+        emit_fill(out, Reg32::Edi, Reg32::Esi, Reg32::Esp, label)
+    } else {
+        Ok(())
+    }
+}
+
+/// Makes the frame, keeps the caller's registers in it, and clears every word below an offset, where there are any, by
+/// a loop with this label; ESP goes to the offset of the frame's end.
+pub fn emit_prologue(
+    out: &mut Vec<Item>,
+    frame: i32,
+    zeroed: i32,
+    label: u32,
+) -> Result<(), NoMemory>
+    ensures { OnOk result (out.new.items ≡ out.old.items ++ prologue (distance frame) (distance zeroed) label) }
 {
     emit_saves(out)?;
-    emit_frame(out, frame)?;
-    emit_fill(out, Reg32::Edi, Reg32::Esi, Reg32::Esp, label)
+    emit(out, Insn::Lea(Reg32::Esp, at_offset(frame)))?;
+    emit_zeroing(out, frame, zeroed, label)
 }

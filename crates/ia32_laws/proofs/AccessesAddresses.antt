@@ -1,5 +1,5 @@
 -- The machine follows the ops that take the address of a frame array and of a static object.
-use Rattle.std.proofs.Common.{◌≡◌, ℕ, zero, suc, ◌+◌, ◌-◌, ◌*◌, ◌^◌, ◌<◌, ◌≤◌, ℤ, List, [], ◌∷◌, ◌++◌}
+use Rattle.std.proofs.Common.{false, ◌≡◌, ℕ, zero, suc, ◌+◌, ◌-◌, ◌*◌, ◌^◌, ◌<◌, ◌≤◌, ℤ, List, [], ◌∷◌, ◌++◌}
 use Rattle.std.proofs.Common.{length, Option, Some, inl, inr, refl, sym, ap, subst, ◌∙◌, arith}
 use Rattle.std.specs.Prelude.{⊤, slice_get, slice_index_or}
 use Rattle.std.specs.Int.{w32, cast_unsigned}
@@ -40,9 +40,10 @@ use Rattle.ia32_rows.specs.Laws.{Gives, Puts}
 use Rattle.ia32_rows.proofs.Instructions.{number-makes}
 use Rattle.ia32_rows.proofs.Kept.{other-cells}
 use Rattle.ia32_rows.proofs.Moves.{gives-word}
+use Rattle.ia32_laws.proofs.Landing.{followed}
 use Rattle.ia32_laws.specs.Supports.{IsSupported, site_of}
 use Rattle.ia32_laws.specs.KeepsOps.{RowAt}
-use Rattle.ia32_laws.proofs.Copies.{word-small}
+use Rattle.ia32_laws.proofs.Small.{word-small}
 use Rattle.ia32_laws.proofs.Ops.{at-after, op-is}
 use Rattle.ia32_laws.proofs.Puts.{IsLow, puts-follow}
 use Rattle.ia32_laws.proofs.Shown.{point-supported}
@@ -111,6 +112,7 @@ own-address code input g s k below elements shown has placed within =
 
 pub frame-follows : FrameFollows
 frame-follows d k code input g s supported state shown has r =
+    followed code input g s (op.Frame d k) false supported state has (
     let o : Op = op.Frame d k in
     let frame : ℕ = (placement_of code g.current.function).frame in
     let here = point-supported code g o supported state has in
@@ -142,7 +144,7 @@ frame-follows d k code input g s supported state shown has r =
     (frame-puts (site_of code g.current.function) frame place below s framed supports.four_words for.inside
     (omega (arith, low)) (omega (arith, high)))
     (subst (λ (v : Option Width). IsLow code (active_of g) shown.frames v value w) (sym fits.0) is)
-    (omega arith, omega arith)
+    (omega arith, omega arith))
 
 -- ---- static objects
 
@@ -237,6 +239,7 @@ named-row code g r k items s row =
 
 pub static-follows : StaticFollows
 static-follows d k code input g s supported state shown has r =
+    followed code input g s (op.Static d k) false supported state has (
     let o : Op = op.Static d k in
     let frame : ℕ = (placement_of code g.current.function).frame in
     let site : Site = site_of code g.current.function in
@@ -262,4 +265,4 @@ static-follows d k code input g s supported state shown has r =
     (given-puts site frame (plain (insn.MovImm (rm.Reg t) z) ∷ []) place w s four for.inside
     (gives-word site frame (insn.MovImm (rm.Reg t) z) t w s framed (target-works frame place for.inside) small
     (number-makes site t z s framed.sound)))
-    (subst (λ (v : Option Width). IsLow code (active_of g) shown.frames v value w) (sym fits.0) is) tt
+    (subst (λ (v : Option Width). IsLow code (active_of g) shown.frames v value w) (sym fits.0) is) tt)

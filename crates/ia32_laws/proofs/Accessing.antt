@@ -15,7 +15,6 @@ use Rattle.pcc_base.specs.declared.run.Width.TheVariants.{Two}
 use Rattle.ia32_insn.specs.declared.register_names.Reg32.TheVariants.{Esp, Ebp}
 use Rattle.ia32_insn.specs.Places.{Place, InWord, InByte, InSlot}
 use Rattle.ia32_insn.specs.declared.item.Item.{Item}
-use Rattle.ia32_insn.specs.declared.item.Item.TheVariants as item
 use Rattle.ia32_insn.specs.State as machine
 use Rattle.ia32_insn.specs.State.{at_address}
 use Rattle.ia32_insn.specs.Meaning.{word_of}
@@ -32,13 +31,15 @@ use Rattle.flow_graph.specs.States.{flow_at}
 use Rattle.flow_graph.specs.States.{op_at, point_after, value_at, with_value}
 use Rattle.flow_graph.specs.WellFormed.{AreElementsIn, AreElementsOf, IsState}
 use Rattle.flow_graph.proofs.Lists.{All-at, zip-at}
-use Rattle.ia32_rows.specs.Follows.{ComesToEnd, Follows}
+use Rattle.ia32_rows.specs.Follows.{ComesToEnd}
+use Rattle.ia32_laws.specs.KeepsLaws.{moved_to}
+use Rattle.ia32_laws.proofs.Landing.{FollowsKept, lands}
 use Rattle.ia32_rows.specs.Paths.{Comes}
 use Rattle.ia32_rows.specs.Placements.{Code, placement_of}
 use Rattle.ia32_rows.specs.Shows.{IsArrayAt, IsOldArray, IsWord, Shows, StandsIn}
 use Rattle.ia32_rows.specs.Sites.{Framed, ReadyAt, Site, SoundAt}
 use Rattle.ia32_rows.proofs.Sound.{sound-at}
-use Rattle.ia32_rows.proofs.Steps.{comes-not, point-passed}
+use Rattle.ia32_rows.proofs.Steps.{comes-not}
 use Rattle.ia32_rows.specs.Effects.{Keeps}
 use Rattle.ia32_rows.specs.Contains.{ApartFromPlace, Contains, HoldsWord, IsPlaceIn, Untouched}
 use Rattle.ia32_rows.specs.Laws.{HoldsLow}
@@ -46,10 +47,10 @@ use Rattle.ia32_rows.proofs.Kept.{HasCells, contains-kept, keeps-same, word-kept
 use Rattle.ia32_laws.specs.Supports.{HoldsWidth, IsPlaceFor, IsSupported, site_of}
 use Rattle.ia32_laws.specs.Protected.{KeepsShown}
 use Rattle.ia32_laws.proofs.KeepsApart.{protected-is-apart}
-use Rattle.ia32_laws.proofs.Copies.{word-small}
-use Rattle.ia32_laws.proofs.Memory.{address-at}
+use Rattle.ia32_laws.proofs.Small.{word-small}
 use Rattle.ia32_laws.proofs.Ops.{holds-word}
-use Rattle.ia32_laws.proofs.Puts.{IsLow, at-own-address, following-in, keeps-at, stands-at}
+use Rattle.ia32_laws.proofs.Puts.{IsLow}
+use Rattle.ia32_laws.proofs.Elsewhere.{at-own-address, following-in, keeps-at, stands-at}
 use Rattle.ia32_laws.proofs.Regions.{array-above, region-of, static-ends}
 use Rattle.ia32_laws.proofs.Shown.{point-supported, set-shows}
 use Rattle.ia32_laws.proofs.Stored.{IsNamed, StandNow, named, stand-now}
@@ -104,7 +105,7 @@ pub reached-follows : (code : Code) (input : List ℕ) (g : graph.State) (s u : 
     → ReadyAt (site_of code g.current.function) rest (at_address after u) → IsNext code g rest
     → IsLow code (active_of g) shown.frames (slice_get (flow_at code.program g.current.function).widths d) value w
     → IsOldArray (depth_of g) value
-    → Follows code input s g false (sets code.program g d value)
+    → FollowsKept code input s g false (sets code.program g d value)
 reached-follows code input g s u o d w value place after rest supported state shown has defines leads at keeps holds
     sound comes ready follows low old =
     follow (point_after code.program g.current.function g.block g.point) refl
@@ -119,34 +120,31 @@ reached-follows code input g s u o d w value place after rest supported state sh
     width = slice_get (flow_at code.program g.current.function).widths d
 
     follow : (next : Option ℕ) → point_after code.program g.current.function g.block g.point ≡ next
-        → Follows code input s g false (at_point g.block (with_value d value g) next)
+        → FollowsKept code input s g false (at_point g.block (with_value d value g) next)
     follow None e = tt
-    follow (Some q) e =
+    follow (Some q) e = λ kept.
         let t : machine.State = at_address after u in
         let more = follows q e in
-        let there : ReadyAt site (item.Point q ∷ more.0) t =
-        subst (λ (xs : List Item). ReadyAt site xs t) more.1 ready in
-        let point = point-passed site.symbols site.places site.text q more.0 t there in (
-          t,
-          comes,
-          set-shows code input g s t o d value g.block q g.left g.taken g.written supported state shown has defines
-              (keeps-at code g shown.frames (Some d) after s u
-              (row-keeps code input g s u o d place supported state shown has at keeps))
-              (λ other f. subst (StandsIn code (active_of g) shown.frames t (word_of Ebp t) width value)
-              (same_Some place other (sym at ∙ f))
-              (stands-at code (active_of g) shown.frames after u (word_of Ebp u) width value place
-              (stands-low code (active_of g) shown.frames u width value place w for.holds low holds))) old
-              (record {
-                leads = ((g.block, state.placed), o, has, leads q (g.block, e));
-                placed = following-in g.point q (points_of (flow_at code.program g.current.function) g.block) e;
-                sound = sound-at site.text site.low site.high after u sound;
-                eip = sym point.0 ∙ sym (address-at code.places g.current.function q);
-                left = keeps.left ∙ shown.left;
-                taken = keeps.taken ∙ shown.taken;
-                written = keeps.written ∙ shown.written;
-                of_input = keeps.left ∙ shown.of_input ∙ ap (λ (k : ℕ). drop k input) (sym keeps.taken);
-              }),
-        )
+        lands code input g.point (with_value d value (moved_to g.block q g.left g.taken g.written g))
+        g.current.function q refl refl s t rest more.0 supported kept
+        ((g.block, state.placed), o, has, leads q (g.block, e))
+        (comes) ready more.1
+        (set-shows code input g s t o d value g.block q g.left g.taken g.written supported state shown has defines
+        (keeps-at code g shown.frames (Some d) after s u
+        (row-keeps code input g s u o d place supported state shown has at keeps))
+        (λ other f. subst (StandsIn code (active_of g) shown.frames t (word_of Ebp t) width value)
+        (same_Some place other (sym at ∙ f))
+        (stands-at code (active_of g) shown.frames after u (word_of Ebp u) width value place
+        (stands-low code (active_of g) shown.frames u width value place w for.holds low holds))) old
+        (record {
+          leads = ((g.block, state.placed), o, has, leads q (g.block, e));
+          placed = following-in g.point q (points_of (flow_at code.program g.current.function) g.block) e;
+          sound = sound-at site.text site.low site.high after u sound;
+          left = keeps.left ∙ shown.left;
+          taken = keeps.taken ∙ shown.taken;
+          written = keeps.written ∙ shown.written;
+          of_input = keeps.left ∙ shown.of_input ∙ ap (λ (k : ℕ). drop k input) (sym keeps.taken);
+        }))
 
 -- a failed check is the program's end too
 pub ends-there : (code : Code) (input : List ℕ) (g : graph.State) (s : machine.State) → Shows code input g s

@@ -1,5 +1,5 @@
 -- A state that has come back from a routine, with a result in EAX, shows the next one once the result is in its place.
-use Rattle.std.proofs.Common.{◌≡◌, ◌⊎◌, ℕ, ◌+◌, ◌-◌, ◌*◌, ◌/◌, ◌%◌, ◌<◌, ◌≤◌, false, List, ◌∷◌, ◌++◌}
+use Rattle.std.proofs.Common.{◌≡◌, ◌⊎◌, ℕ, ◌+◌, ◌-◌, ◌*◌, ◌/◌, ◌%◌, ◌<◌, ◌≤◌, false, List, ◌++◌}
 use Rattle.std.proofs.Common.{Option, Some, None, Ok, inl, inr, refl, sym, ap, subst, ◌∙◌, arith, get_or, drop}
 use Rattle.std.specs.Prelude.{slice_get}
 use Rattle.std.proofs.lemmas.List.{get_or-drop}
@@ -13,7 +13,6 @@ use Rattle.ia32_insn.specs.declared.register_names.Reg8.TheVariants.{Al, Cl, Dl,
 use Rattle.ia32_insn.specs.Registers.{AreRegisters}
 use Rattle.ia32_insn.specs.Places.{Place, InWord, InByte, InSlot}
 use Rattle.ia32_insn.specs.declared.item.Item.{Item}
-use Rattle.ia32_insn.specs.declared.item.Item.TheVariants as item
 use Rattle.ia32_insn.specs.State as machine
 use Rattle.ia32_insn.specs.State.{at_address}
 use Rattle.ia32_insn.specs.Keeps.{AreDisjoint}
@@ -25,13 +24,13 @@ use Rattle.flow_graph.specs.Meaning.{at_point, sets}
 use Rattle.flow_graph.specs.States as graph
 use Rattle.flow_graph.specs.States.{active_of, depth_of, flow_at, op_at, point_after, with_value}
 use Rattle.flow_graph.specs.WellFormed.{IsState}
-use Rattle.ia32_rows.specs.Follows.{Follows}
+use Rattle.ia32_laws.proofs.Landing.{FollowsKept, lands}
 use Rattle.ia32_rows.specs.Paths.{Comes}
 use Rattle.ia32_rows.specs.Placements.{Code, placement_of}
 use Rattle.ia32_rows.specs.Shows.{IsOldArray, IsWord, Shows, StandsIn}
 use Rattle.ia32_rows.specs.Sites.{Framed, ReadyAt, Site}
 use Rattle.ia32_rows.proofs.Sound.{sound-at}
-use Rattle.ia32_rows.proofs.Steps.{comes-then, point-passed}
+use Rattle.ia32_rows.proofs.Steps.{comes-then}
 use Rattle.ia32_rows.specs.Rows.{write}
 use Rattle.ia32_rows.specs.Contains.{ApartFromPlace, IsPlaceIn, Untouched}
 use Rattle.ia32_rows.specs.Laws.{Puts}
@@ -41,10 +40,10 @@ use Rattle.ia32_rows.proofs.Straight.{straight-goes}
 use Rattle.ia32_laws.specs.KeepsLaws.{moved_to}
 use Rattle.ia32_laws.specs.Supports.{IsPlaceFor, IsSpared, IsSparedByCall, IsSupported, site_of}
 use Rattle.ia32_laws.specs.Protected.{IsSame, KeepsShown}
-use Rattle.ia32_laws.proofs.Memory.{address-at}
 use Rattle.ia32_laws.proofs.Shown.{point-supported, set-shows}
 use Rattle.ia32_laws.proofs.KeepsApart.{protected-is-apart, pushed-is-apart}
-use Rattle.ia32_laws.proofs.Puts.{IsLow, at-own-address, following-in, keeps-at, stands-at}
+use Rattle.ia32_laws.proofs.Puts.{IsLow}
+use Rattle.ia32_laws.proofs.Elsewhere.{at-own-address, following-in, keeps-at, stands-at}
 use Rattle.ia32_laws.proofs.Beside.{cells-apart, memory-apart, same-from, stack-untouched, stands-low}
 use Rattle.ia32_laws.proofs.Goes.{low-byte-is}
 use Rattle.ia32_laws.proofs.Onward.{IsNext}
@@ -187,7 +186,7 @@ pub answered-follows : (code : Code) (input : List ℕ) (g : graph.State) (s m :
     y left taken written s m
     → IsNext code g rest → IsWord code (active_of g) shown.frames value y → IsOldArray (depth_of g) value
     → left ≡ drop taken input
-    → Follows code input s g false (sets code.program (moved_to g.block g.point left taken written g) d value)
+    → FollowsKept code input s g false (sets code.program (moved_to g.block g.point left taken written g) d value)
 answered-follows code input g s m o d y value place rest left taken written supported state shown has defines spares
     leads wide at back follows is old of_input =
     follow (point_after code.program g.current.function g.block g.point) refl
@@ -208,10 +207,10 @@ answered-follows code input g s m o d y value place rest left taken written supp
     low = subst (λ (w : Option Width). IsLow code (active_of g) shown.frames w value y) (sym wide) is
 
     follow : (next : Option ℕ) → point_after code.program g.current.function g.block g.point ≡ next
-        → Follows code input s g false
+        → FollowsKept code input s g false
         (at_point g.block (with_value d value (moved_to g.block g.point left taken written g)) next)
     follow None e = tt
-    follow (Some q) e =
+    follow (Some q) e = λ kept.
         let four = (supported.supports g.current.function state.active.0.function).four_words in
         let last = write-puts site frame place Eax y m back.framed four for.inside back.eax in
         let u : machine.State = last.0 in
@@ -224,26 +223,23 @@ answered-follows code input g s m o d y value place rest left taken written supp
         let t : machine.State = at_address went.0 u in
         let comes : Comes code.text m t = subst (λ (x : machine.State). Comes code.text x t) own went.1 in
         let more = follows q e in
-        let there : ReadyAt site (item.Point q ∷ more.0) t =
-        subst (λ (xs : List Item). ReadyAt site xs t) more.1 went.2 in
-        let point = point-passed site.symbols site.places site.text q more.0 t there in (
-          t,
-          comes-then code.text s m t back.comes comes,
-          set-shows code input g s t o d value g.block q left taken written supported state shown has defines
-              (keeps-at code g shown.frames (Some d) went.0 s u keeps)
-              (λ other f. subst (StandsIn code (active_of g) shown.frames t (word_of Ebp t) width value)
-              (same_Some place other (sym at ∙ f))
-              (stands-at code (active_of g) shown.frames went.0 u (word_of Ebp u) width value place
-              (stands-low code (active_of g) shown.frames u width value place y for.holds low last.1.holds))) old
-              (record {
-                leads = ((g.block, state.placed), o, has, leads q (g.block, e));
-                placed = following-in g.point q (points_of (flow_at code.program g.current.function) g.block) e;
-                sound = sound-at site.text site.low site.high went.0 u last.1.framed.sound;
-                eip = sym point.0 ∙ sym (address-at code.places g.current.function q);
-                left = last.1.keeps.left ∙ back.left_is;
-                taken = last.1.keeps.taken ∙ back.taken_is;
-                written = last.1.keeps.written ∙ back.written_is;
-                of_input = last.1.keeps.left ∙ back.left_is ∙ of_input
-                    ∙ ap (λ (k : ℕ). drop k input) (sym (last.1.keeps.taken ∙ back.taken_is));
-              }),
-        )
+        lands code input g.point (with_value d value (moved_to g.block q left taken written g))
+        g.current.function q refl refl s t rest more.0 supported kept
+        ((g.block, state.placed), o, has, leads q (g.block, e))
+        (comes-then code.text s m t back.comes comes) went.2 more.1
+        (set-shows code input g s t o d value g.block q left taken written supported state shown has defines
+        (keeps-at code g shown.frames (Some d) went.0 s u keeps)
+        (λ other f. subst (StandsIn code (active_of g) shown.frames t (word_of Ebp t) width value)
+        (same_Some place other (sym at ∙ f))
+        (stands-at code (active_of g) shown.frames went.0 u (word_of Ebp u) width value place
+        (stands-low code (active_of g) shown.frames u width value place y for.holds low last.1.holds))) old
+        (record {
+          leads = ((g.block, state.placed), o, has, leads q (g.block, e));
+          placed = following-in g.point q (points_of (flow_at code.program g.current.function) g.block) e;
+          sound = sound-at site.text site.low site.high went.0 u last.1.framed.sound;
+          left = last.1.keeps.left ∙ back.left_is;
+          taken = last.1.keeps.taken ∙ back.taken_is;
+          written = last.1.keeps.written ∙ back.written_is;
+          of_input = last.1.keeps.left ∙ back.left_is ∙ of_input
+              ∙ ap (λ (k : ℕ). drop k input) (sym (last.1.keeps.taken ∙ back.taken_is));
+        }))

@@ -14,16 +14,17 @@ use Rattle.ia32_insn.specs.Items.{text_start}
 use Rattle.ia32_insn.specs.Spelling.{Spells}
 use Rattle.flow_graph.specs.declared.op.Op.{Op}
 use Rattle.flow_graph.specs.declared.op.Op.TheVariants as op
-use Rattle.flow_graph.specs.Graphs.{Flow, Stands}
+use Rattle.flow_graph.specs.Graphs.{Flow, Stands, points_of}
 use Rattle.flow_graph.specs.States.{flow_at, op_of}
 use Rattle.ia32_rows.specs.Paths.{IsAt, IsClear}
 use Rattle.ia32_rows.specs.Placements.{Code, Placement, address_in, placement_of, point_address}
 use Rattle.ia32_rows.specs.Sites.{Site, StandsFrom}
 use Rattle.ia32_rows.proofs.Spelled.{BeginsOther, common-begins}
 use Rattle.ia32_rows.proofs.Steps.{at-front, clear-at}
-use Rattle.ia32_rows.specs.Rows.{row, selected}
+use Rattle.ia32_rows.specs.Rows.{moves_to, row, selected}
 use Rattle.ia32_rows.proofs.ItemKinds.{BeginsWithRoom, PointsTakeRoom, behind-point, item-room, later, one-address}
-use Rattle.ia32_rows.proofs.ItemKinds.{BeginsWithOther, IsOther, other-begins, point-address, selected-room}
+use Rattle.ia32_rows.proofs.ItemKinds.{AreOthers, BeginsWithOther, IsOther, JumpsOverOthers, other-begins}
+use Rattle.ia32_rows.proofs.ItemKinds.{point-address, selected-room, straight-others}
 use Rattle.ia32_rows.proofs.Laid.{nop-there, point-among}
 use Rattle.ia32_laws.specs.Supports.{site_of}
 use Rattle.ia32_laws.specs.StandingLaws.{IsSelected, MarksAreNops, OthersAreClear, PointsApart}
@@ -196,9 +197,23 @@ clear-there site (x ∷ items) rest address some h =
     clear-at site.text address first here
     (item-other site.symbols site.places address x first some h.stand.3)
 
+-- the moves before a jump are no NOPs
+jumps-over : (code : Code) (f block p : ℕ) (o : Op) → IsSelected code → f < length code.program.functions
+    → Stands (flow_at code.program f) p block → op_of code.program f p ≡ Some o
+    → JumpsOverOthers (flow_at code.program f) (placement_of code f) p o
+jumps-over code f block p o h below stands has x is = at (slice_get (points_of (flow_at code.program f) x) 0) refl
+  where
+    at : (next : Option ℕ) → slice_get (points_of (flow_at code.program f) x) 0 ≡ next
+        → AreOthers (moves_to (placement_of code f) p next)
+    at None e = tt
+    at (Some q) e =
+        straight-others ((placement_of code f).between p q)
+        ((h.supported.supports f below).moves p q ((block, stands), op.Jump x, has ∙ ap Some is, e)).straight
+
 pub others-are-clear : OthersAreClear
 others-are-clear code f block p o h below stands has nop =
     let r = points-stand code f block p o h below stands has in
     clear-there (site_of code f) (row (flow_at code.program f) (placement_of code f) p o) r.rest
     (point_address code f p)
-    (other-begins (flow_at code.program f) (placement_of code f) p o nop) r.stands
+    (other-begins (flow_at code.program f) (placement_of code f) p o nop
+    (jumps-over code f block p o h below stands has)) r.stands

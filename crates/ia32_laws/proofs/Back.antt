@@ -13,10 +13,11 @@ use Rattle.flow_graph.specs.Graphs.{Stands}
 use Rattle.flow_graph.specs.States as graph
 use Rattle.flow_graph.specs.States.{Activation, Waiting, active_of, depth_of, flow_at}
 use Rattle.flow_graph.specs.WellFormed.{IsState}
-use Rattle.ia32_rows.specs.Placements.{Code, objects_of, placement_of, point_address}
+use Rattle.ia32_rows.specs.Placements.{Code, objects_of, placement_of}
 use Rattle.ia32_rows.specs.Shows.{AllStand, ArgumentsStand, FrameArraysStand, HoldsOldArrays, Shows, WaitFrom}
 use Rattle.ia32_rows.specs.Shows.{IsOldArray, IsWord, stack_bytes}
 use Rattle.ia32_rows.specs.Sites.{SoundAt}
+use Rattle.ia32_laws.specs.MovesLaws.{ShowsBehind}
 use Rattle.ia32_laws.specs.KeepsLaws.{data_end}
 use Rattle.ia32_laws.specs.Supports.{IsArrayIn, IsSupported, site_of, size_of}
 use Rattle.ia32_laws.proofs.KeepsApart.{IsSomewhere, element-ends, frame-array, frame-room, object-read}
@@ -52,7 +53,6 @@ pub record IsBehind (code : Code) (g : graph.State) (w : Waiting) (waiting : Lis
   pub sound : SoundAt (site_of code w.activation.function) t
   pub ebp : word_of Ebp t ≡ base
   pub esp : word_of Esp t + frame_size code w.activation ≡ base
-  pub eip : t.eip ≡ point_address code w.activation.function point
   pub depth : load 4 code.symbols.depth t ≡ Ok (suc (length waiting))
   pub kept : KeptBehind code (resumed g w waiting variables point) base s t
   pub left : t.left ≡ s.left
@@ -182,9 +182,9 @@ module _ (code : Code) (input : List ℕ) (g : graph.State) (s t : machine.State
       → IsBehind code g w waiting variables point base s t
       → Stands (flow_at code.program w.activation.function) point w.block
       → AllStand code (active_of H) (base ∷ rest) t base H.current
-      ((placement_of code w.activation.function).before point)
+      ((placement_of code w.activation.function).after w.point)
       → ((v : ℕ) (value : Value) → slice_get variables v ≡ Some value → IsOldArray (suc (length waiting)) value)
-      → Shows code input H t
+      → ShowsBehind code input w.point H t
   back-shows h state shown frames chain room high large more higher b placed stand old =
       let sound = b.sound in
       let supported = waits-supported code waiting h (state.active.1).1 in
@@ -196,7 +196,7 @@ module _ (code : Code) (input : List ℕ) (g : graph.State) (s t : machine.State
         placed = placed;
         shapes = shapes-are code.text (objects_of code.program) t.memory sound.bytes sound.memory sound.size;
         text = text-is code.text t.memory (data_start code.text) sound.bytes sound.memory;
-        eip = b.eip;
+        eip = refl;
         esp = b.esp ∙ sym b.ebp;
         room = stacked (stack_end code.text (objects_of code.program)) (word_of Esp s) (word_of Ebp s)
             (frame_size code g.current) (4 * length g.current.arguments) (frame_size code w.activation)
@@ -213,7 +213,7 @@ module _ (code : Code) (input : List ℕ) (g : graph.State) (s t : machine.State
             b.kept n a x (inr (inl up)) (far (data_start code.text) (data_end code)
             (frame_size code w.activation) base a more large up)) chain));
         variables = subst (λ (k : ℕ). AllStand code (active_of H) (base ∷ rest) t k H.current
-            ((placement_of code w.activation.function).before point)) (sym b.ebp) stand;
+            ((placement_of code w.activation.function).after w.point)) (sym b.ebp) stand;
         arguments = λ i a at e f number value has. passed i a at e f number value has;
         old_arrays = olden;
         objects = λ k elements e.

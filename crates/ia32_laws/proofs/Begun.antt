@@ -39,7 +39,7 @@ abbrev pub Outside : ℕ → ℕ → ℕ → ℕ → Type 0
 Outside frame size b n = (frame + 4 ≤ b) ⊎ (b + n + size ≤ frame)
 
 -- The frame is made, where its words are and EIP is at the first point.
-pub record Begun (site : Site) (size : ℕ) (arrays : List (ℕ × ℕ)) (belows : List ℕ) (point frame : ℕ)
+pub record Begun (site : Site) (size zeroed : ℕ) (arrays : List (ℕ × ℕ)) (belows : List ℕ) (point frame : ℕ)
     (s u : machine.State) : Type 0 where
   pub comes : Comes site.text s u
   pub sound : SoundAt site u
@@ -50,7 +50,7 @@ pub record Begun (site : Site) (size : ℕ) (arrays : List (ℕ × ℕ)) (belows
   pub old_ebx : load 4 (frame - 4) u ≡ Ok (word_of Ebx s)
   pub counts : (k distance : ℕ) (array : ℕ × ℕ) → slice_get arrays k ≡ Some array → slice_get belows k ≡ Some distance
       → load 4 (frame - (distance + 4)) u ≡ Ok array.1
-  pub zeros : (n b : ℕ) → frame ≤ b + size → b + n + 12 ≤ frame → 0 < n → HeadersApart frame arrays belows b n
+  pub zeros : (n b : ℕ) → frame ≤ b + size → b + n + zeroed ≤ frame → 0 < n → HeadersApart frame arrays belows b n
       → load n b u ≡ Ok 0
   pub kept : (n b w : ℕ) → Outside frame size b n → load n b s ≡ Ok w → load n b u ≡ Ok w
   pub left : u.left ≡ s.left
@@ -76,11 +76,11 @@ header-below frame size z d c h k l few = inl (omega arith)
 
 -- ---- the state
 
-made : (site : Site) (size point frame : ℕ) (arrays : List (ℕ × ℕ)) (belows : List ℕ) (one two rest : List Item)
+made : (site : Site) (size zeroed point frame : ℕ) (arrays : List (ℕ × ℕ)) (belows : List ℕ) (one two rest : List Item)
     (s v u : machine.State) → 16 ≤ size → size ≤ frame → frame + 4 ≡ word_of Esp s → word_of Ebp v ≡ frame
-    → AreArraysIn arrays size belows → Entered site size one s v → Headed site size two arrays belows v u
-    → u.eip ≡ site.places.points point → Begun site size arrays belows point frame s u
-made site size point frame arrays belows one two rest s v u four room above at inside p q eip =
+    → AreArraysIn arrays size belows → Entered site size zeroed one s v → Headed site size two arrays belows v u
+    → u.eip ≡ site.places.points point → Begun site size zeroed arrays belows point frame s u
+made site size zeroed point frame arrays belows one two rest s v u four room above at inside p q eip =
     let base : (b n : ℕ) → HeadersApart frame arrays belows b n → HeadersApart (word_of Ebp v) arrays belows b n =
     λ b n apart k d array e f. subst (λ (x : ℕ). AreDisjoint (x - (d + 4)) 4 b n) (sym at) (apart k d array e f) in
     let saved : (c w : ℕ) → c ≤ 12 → load 4 (word_of Ebp v - c) v ≡ Ok w → load 4 (frame - c) u ≡ Ok w =
@@ -102,7 +102,7 @@ made site size point frame arrays belows one two rest s v u four room above at i
       old_ebx = saved 4 (word_of Ebx s) (omega arith) p.old_ebx;
       counts = λ k d array e f. subst (λ (x : ℕ). load 4 (x - (d + 4)) u ≡ Ok array.1) at (q.counts k d array e f);
       zeros = λ n b low high some apart. q.kept n b 0 (base b n apart)
-          (p.zeros n b (omega (arith, low, whole, at)) (below-twelve (b + n) frame (word_of Ebp v) high at) some);
+          (p.zeros n b (omega (arith, low, whole, at)) (below-zeroed (b + n) frame (word_of Ebp v) high at) some);
       kept = λ n b w out e. q.kept n b w (base b n (λ k d array f g.
           header-outside frame size d b n (inside.inside k d array f g).high room out))
           (p.kept n b w (frame-outside frame size (word_of Esp s) b n above room out) e);
@@ -117,8 +117,8 @@ made site size point frame arrays belows one two rest s v u four room above at i
     zero-off : (a : ℕ) (t : machine.State) (w : ℕ) → load 4 a t ≡ Ok w → load 4 (a - 0) t ≡ Ok w
     zero-off a t w e = let none : a - 0 ≡ a = omega arith in subst (λ (x : ℕ). load 4 x t ≡ Ok w) (sym none) e
 
-    below-twelve : (m f e : ℕ) → m + 12 ≤ f → e ≡ f → m ≤ e - 12
-    below-twelve m f e h k = omega arith
+    below-zeroed : (m f e : ℕ) → m + zeroed ≤ f → e ≡ f → m ≤ e - zeroed
+    below-zeroed m f e h k = omega arith
 
 -- ---- room on the stack
 
@@ -165,6 +165,7 @@ called-sound code input g s h c =
 pub begins : (code : Code) (input : List ℕ) (g : graph.State) (s : machine.State) → IsSupported code
     → IsState code.program g → (c : Called code input g s) → EntryAt code g s
     → (u : machine.State) × Begun (site_of code g.current.function) (frame_size code g.current)
+    (placement_of code g.current.function).zeroed
     (flow_at code.program g.current.function).arrays (placement_of code g.current.function).arrays g.point c.frame s u
 begins code input g s h state c at =
     let f : ℕ = g.current.function in
@@ -182,10 +183,11 @@ begins code input g s h state c at =
     (c.frame + 4) returns.0 s sound
     (lower (data_start code.text) (length (data_bytes (objects_of code.program))) size c.frame room) returns.1
     (omega arith) in
-    let p = prologue-goes site size at.label (headers flow.arrays placement.arrays ++ last) s sound at.ready
+    let p = prologue-goes site size placement.zeroed at.label (headers flow.arrays placement.arrays ++ last) s sound
+    at.ready
     (enough (data_start code.text) (length (data_bytes (objects_of code.program))) size c.frame (word_of Esp s) room
     above) (ended c.frame (word_of Esp s) (stack_end code.text (objects_of code.program)) above top)
-    supports.four_words supports.words in
+    supports.four_words supports.words supports.below_registers supports.zeroed_words in
     let v : machine.State = p.0 in
     let few = ((graph-of code.program f h.program (state.active.0).function).keeps.1).few_elements in
     let q = headers-go site size flow.arrays placement.arrays last v (p.1).framed supports.arrays few (p.1).ready in
@@ -193,8 +195,8 @@ begins code input g s h state c at =
     let behind = label-passed site.symbols site.places site.text 0 (item.Point g.point ∷ at.rest) u (q.1).ready in
     let point = point-passed site.symbols site.places site.text g.point at.rest u behind in (
       u,
-      made site size g.point c.frame flow.arrays placement.arrays (headers flow.arrays placement.arrays ++ last) last
-          at.rest s v u supports.four_words
+      made site size placement.zeroed g.point c.frame flow.arrays placement.arrays
+          (headers flow.arrays placement.arrays ++ last) last at.rest s v u supports.four_words
           (within (data_start code.text + length (data_bytes (objects_of code.program))) size c.frame room) above
           (same-plus (word_of Ebp v) c.frame (word_of Esp s) (p.1).ebp above) supports.arrays p.1 q.1 (sym point.0),
     )

@@ -1,6 +1,6 @@
 -- A row that puts a word into a place, and takes cells of registers that the op doesn't spare, leads to a state that
 -- shows the next.
-use Rattle.std.proofs.Common.{◌≡◌, ◌⊎◌, ℕ, ◌+◌, ◌-◌, ◌*◌, ◌%◌, ◌<◌, ◌≤◌, false, List, ◌∷◌, ◌++◌, Option}
+use Rattle.std.proofs.Common.{◌≡◌, ◌⊎◌, ℕ, ◌+◌, ◌-◌, ◌*◌, ◌%◌, ◌<◌, ◌≤◌, false, List, ◌++◌, Option}
 use Rattle.std.proofs.Common.{Some, None, Ok, inl, inr, refl, sym, ap, subst, ◌∙◌, arith}
 use Rattle.std.specs.Prelude.{drop, slice_get}
 use Rattle.std.proofs.lemmas.Option.{same_Some}
@@ -10,7 +10,6 @@ use Rattle.pcc_base.specs.declared.run.Width.TheVariants.{One, Two}
 use Rattle.ia32_insn.specs.declared.register_names.Reg32.TheVariants.{Esp, Ebp}
 use Rattle.ia32_insn.specs.Places.{Place, InWord, InByte, InSlot}
 use Rattle.ia32_insn.specs.declared.item.Item.{Item}
-use Rattle.ia32_insn.specs.declared.item.Item.TheVariants as item
 use Rattle.ia32_insn.specs.State as machine
 use Rattle.ia32_insn.specs.State.{at_address}
 use Rattle.ia32_insn.specs.Meaning.{byte_of, load, word_of}
@@ -21,13 +20,13 @@ use Rattle.flow_graph.specs.Meaning.{at_point, sets}
 use Rattle.flow_graph.specs.States as graph
 use Rattle.flow_graph.specs.States.{Activation, active_of, depth_of, flow_at, op_at, point_after, with_value}
 use Rattle.flow_graph.specs.WellFormed.{IsState}
-use Rattle.ia32_rows.specs.Follows.{Follows}
+use Rattle.ia32_laws.specs.KeepsLaws.{moved_to}
+use Rattle.ia32_laws.proofs.Landing.{FollowsKept, lands}
 use Rattle.ia32_rows.specs.Paths.{Comes}
 use Rattle.ia32_rows.specs.Placements.{Code, placement_of}
 use Rattle.ia32_rows.specs.Shows.{IsByte, IsOldArray, IsWord, Shows, StandsIn}
 use Rattle.ia32_rows.specs.Sites.{Framed, ReadyAt, Site}
 use Rattle.ia32_rows.proofs.Sound.{sound-at}
-use Rattle.ia32_rows.proofs.Steps.{point-passed}
 use Rattle.ia32_rows.specs.Contains.{ApartFromPlace, Contains, IsPlaceIn, Untouched}
 use Rattle.ia32_rows.specs.Laws.{ArePlacesApart, HoldsLow}
 use Rattle.ia32_rows.proofs.Kept.{HasCells, PlaceHasCells, PlaceHasMemory, contains-kept, other-cells, word-kept}
@@ -36,11 +35,11 @@ use Rattle.ia32_rows.proofs.Straight.{straight-goes}
 use Rattle.ia32_laws.specs.Supports.{HoldsWidth, IsPlaceFor, IsSpared, IsSupported, site_of}
 use Rattle.ia32_laws.specs.Protected.{IsSame, KeepsShown}
 use Rattle.ia32_laws.specs.KeepsOps.{RowAt}
-use Rattle.ia32_laws.proofs.Memory.{address-at}
 use Rattle.ia32_laws.proofs.Shown.{point-supported, set-shows}
 use Rattle.ia32_laws.proofs.Zones.{shown-in-frame}
 use Rattle.ia32_laws.proofs.KeepsApart.{protected-is-apart}
-use Rattle.ia32_laws.proofs.Puts.{IsLow, at-own-address, following-in, keeps-at, stands-at}
+use Rattle.ia32_laws.proofs.Puts.{IsLow}
+use Rattle.ia32_laws.proofs.Elsewhere.{at-own-address, following-in, keeps-at, stands-at}
 use Rattle.ia32_laws.specs.CoresLaws.{PutsBeside}
 
 -- ---- cells
@@ -178,7 +177,7 @@ pub beside-follows : (R : ℕ → Type 0) (code : Code) (input : List ℕ) (g : 
     (placement_of code g.current.function).frame items place w s u)
     → IsLow code (active_of g) shown.frames (slice_get (flow_at code.program g.current.function).widths d) value w
     → IsOldArray (depth_of g) value
-    → Follows code input s g false (sets code.program g d value)
+    → FollowsKept code input s g false (sets code.program g d value)
 beside-follows R code input g s o d w value place items supported state shown has defines spares leads r at (u, puts)
     low old =
     follow (point_after code.program g.current.function g.block g.point) refl
@@ -199,9 +198,9 @@ beside-follows R code input g s o d w value place items supported state shown ha
     width = slice_get (flow_at code.program g.current.function).widths d
 
     follow : (next : Option ℕ) → point_after code.program g.current.function g.block g.point ≡ next
-        → Follows code input s g false (at_point g.block (with_value d value g) next)
+        → FollowsKept code input s g false (at_point g.block (with_value d value g) next)
     follow None e = tt
-    follow (Some q) e =
+    follow (Some q) e = λ kept.
         let own : at_address s.eip s ≡ s = at-own-address code g.current.function (items ++ r.rest) s supported r.ready
         in
         let ready : ReadyAt site (items ++ r.rest) (at_address s.eip s) =
@@ -210,26 +209,23 @@ beside-follows R code input g s o d w value place items supported state shown ha
         let t : machine.State = at_address went.0 u in
         let comes : Comes code.text s t = subst (λ (x : machine.State). Comes code.text x t) own went.1 in
         let more = r.follows q e in
-        let there : ReadyAt site (item.Point q ∷ more.0) t =
-        subst (λ (xs : List Item). ReadyAt site xs t) more.1 went.2 in
-        let point = point-passed site.symbols site.places site.text q more.0 t there in (
-          t,
-          comes,
-          set-shows code input g s t o d value g.block q g.left g.taken g.written supported state shown has defines
-              (keeps-at code g shown.frames (Some d) went.0 s u keeps)
-              (λ other f. subst (StandsIn code (active_of g) shown.frames t (word_of Ebp t) width value)
-              (same_Some place other (sym at ∙ f))
-              (stands-at code (active_of g) shown.frames went.0 u (word_of Ebp u) width value place
-              (stands-low code (active_of g) shown.frames u width value place w for.holds low puts.holds))) old
-              (record {
-                leads = ((g.block, state.placed), o, has, leads q (g.block, e));
-                placed = following-in g.point q (points_of (flow_at code.program g.current.function) g.block) e;
-                sound = sound-at site.text site.low site.high went.0 u puts.framed.sound;
-                eip = sym point.0 ∙ sym (address-at code.places g.current.function q);
-                left = puts.keeps.left ∙ shown.left;
-                taken = puts.keeps.taken ∙ shown.taken;
-                written = puts.keeps.written ∙ shown.written;
-                of_input = puts.keeps.left ∙ shown.of_input
-                    ∙ ap (λ (k : ℕ). drop k input) (sym puts.keeps.taken);
-              }),
-        )
+        lands code input g.point (with_value d value (moved_to g.block q g.left g.taken g.written g))
+        g.current.function q refl refl s t r.rest more.0 supported kept
+        ((g.block, state.placed), o, has, leads q (g.block, e))
+        (comes) went.2 more.1
+        (set-shows code input g s t o d value g.block q g.left g.taken g.written supported state shown has defines
+        (keeps-at code g shown.frames (Some d) went.0 s u keeps)
+        (λ other f. subst (StandsIn code (active_of g) shown.frames t (word_of Ebp t) width value)
+        (same_Some place other (sym at ∙ f))
+        (stands-at code (active_of g) shown.frames went.0 u (word_of Ebp u) width value place
+        (stands-low code (active_of g) shown.frames u width value place w for.holds low puts.holds))) old
+        (record {
+          leads = ((g.block, state.placed), o, has, leads q (g.block, e));
+          placed = following-in g.point q (points_of (flow_at code.program g.current.function) g.block) e;
+          sound = sound-at site.text site.low site.high went.0 u puts.framed.sound;
+          left = puts.keeps.left ∙ shown.left;
+          taken = puts.keeps.taken ∙ shown.taken;
+          written = puts.keeps.written ∙ shown.written;
+          of_input = puts.keeps.left ∙ shown.of_input
+              ∙ ap (λ (k : ℕ). drop k input) (sym puts.keeps.taken);
+        }))

@@ -25,13 +25,14 @@ use Rattle.ia32_rows.specs.Shows.{ElementsStand, FrameArraysStand, HoldsOldArray
 use Rattle.ia32_rows.specs.Shows.{IsFrameArrayAt, StandsIn}
 use Rattle.flow_graph.proofs.Active.{length-active}
 use Rattle.flow_graph.proofs.Changes.{are-there}
-use Rattle.ia32_laws.specs.Supports.{IsPlaceFor, IsSupported, Supports, SupportsPoint, size_of}
+use Rattle.ia32_laws.specs.Supports.{IsPlaceFor, IsSupported, SupportsPoint, size_of}
+use Rattle.ia32_laws.specs.MovesLaws.{ShowsBehind}
 use Rattle.ia32_laws.specs.Protected.{FrameArrayReads, IsCallRead, IsSame, ObjectReads}
 use Rattle.ia32_laws.specs.KeepsLaws.{ArrayShows, Arrives, IsSameRegister, KeepsOutside, data_end, moved_to}
 use Rattle.ia32_laws.proofs.Objects.{depth-in}
 use Rattle.ia32_laws.proofs.Chain.{AreAlike, HasArrays, IsWaitAlike, remade, stands-kept, wait_with}
-use Rattle.ia32_laws.proofs.Shown.{after-set, alike-waits, elements-kept, next-shown, next_state, point-supported}
-use Rattle.ia32_laws.proofs.Shown.{same-waits}
+use Rattle.ia32_laws.proofs.Shown.{after-set, alike-waits, arrives-lands, elements-kept, next-shown, next_state}
+use Rattle.ia32_laws.proofs.Shown.{point-supported, same-waits}
 use Rattle.ia32_laws.proofs.Zones.{IsCallAt, IsSlotOf, argument-read-of, chain-read-of}
 use Rattle.ia32_laws.proofs.KeepsApart.{element-within, object-read}
 use Rattle.ia32_laws.proofs.Regions.{IsArrayOf, IsPart, IsStatic, array-above, other-array-apart}
@@ -134,13 +135,14 @@ array-next : (code : Code) (input : List ℕ) (g : graph.State) (s t : machine.S
     → ObjectsStand code t objects
     → ((i : ℕ) (a : Activation) (frame : ℕ) → slice_get (active_of h) i ≡ Some a
     → slice_get shown.frames i ≡ Some frame → FrameArraysStand code t frame a)
-    → Shows code input h t)
+    → ShowsBehind code input g.point h t)
 array-next code input g s t o block point left taken written arrays after objects first bytes supported state shown has
     none apart keeps arrays_there waits arrives old objects_stand arrays_stand =
-    next-shown code input g s t block point left taken written g.current.variables arrays after objects supported state
-    shown arrays_there waits keeps.esp keeps.ebp (λ n a w reads. keeps.loads n a w (apart.calls a n reads)) arrives
-    (λ v value place e f.
-    let behind = supports.along g.point point v place arrives.leads f in
+    next-shown code input g s t block point left taken written g.current.variables arrays after objects
+    ((placement_of code g.current.function).after g.point) supported state
+    shown arrays_there waits keeps.esp keeps.ebp (λ n a w reads. keeps.loads n a w (apart.calls a n reads))
+    (arrives-lands code input g t block point left taken written arrives)
+    (λ v value place e behind.
     let stays = here.stays v place (λ d. none-some v (sym none ∙ d)) behind in
     subst (λ (base : ℕ). StandsIn code (active_of h) shown.frames t base
     (slice_get (flow_at code.program g.current.function).widths v) value place) (sym keeps.ebp)
@@ -152,9 +154,6 @@ array-next code input g s t o block point left taken written arrays after object
   where
     h : graph.State
     h = next_state g.current.variables arrays after objects (moved_to block point left taken written g)
-
-    supports : Supports (flow_at code.program g.current.function) (placement_of code g.current.function)
-    supports = supported.supports g.current.function state.active.0.function
 
     here : SupportsPoint (flow_at code.program g.current.function) (placement_of code g.current.function) g.point o
     here = point-supported code g o supported state has
@@ -253,7 +252,7 @@ static-shows : (code : Code) (input : List ℕ) (g : graph.State) (s t : machine
     → IsState code.program g → (shown : Shows code input g s) → op_at code.program g ≡ Some o → defined o ≡ None
     → IsStatic code g k address width elements → KeepsOutside code g address (width * length elements) s t
     → ElementsStand t address width new → Arrives code input g (moved_to block point left taken written g) t
-    → Shows code input
+    → ShowsBehind code input g.point
     (next_state g.current.variables g.current.arrays g.waiting (slice_set g.objects k new)
     (moved_to block point left taken written g)) t
 static-shows code input g s t o k address width elements new block point left taken written supported state shown has
@@ -370,7 +369,7 @@ frame-shows : (code : Code) (input : List ℕ) (g : graph.State) (s t : machine.
     → AllZip IsWaitAlike g.waiting after
     → ((i : ℕ) (b : Activation) → slice_get (remade g.current.variables arrays g.current
     ∷ map (λ w. w.activation) after) i ≡ Some b → IsChangedAt g c k new i b)
-    → Shows code input
+    → ShowsBehind code input g.point
     (next_state g.current.variables arrays after g.objects (moved_to block point left taken written g)) t
 frame-shows code input g s t o c k address width elements new bytes block point left taken written arrays after
     supported state shown has none mine few keeps stand arrives arrays_there waits changed =
@@ -437,7 +436,7 @@ pub current-shows : (code : Code) (input : List ℕ) (g : graph.State) (s t : ma
     → (mine : IsArrayOf code g shown.frames 0 k address width elements) → bytes ≤ size_of mine.array
     → KeepsOutside code g address bytes s t → ElementsStand t address width new
     → Arrives code input g (moved_to block point left taken written g) t
-    → Shows code input
+    → ShowsBehind code input g.point
     (next_state g.current.variables (slice_set g.current.arrays k new) g.waiting g.objects
     (moved_to block point left taken written g)) t
 current-shows code input g s t o k address width elements new bytes block point left taken written supported state shown
@@ -495,7 +494,7 @@ waiting-shows : (code : Code) (input : List ℕ) (g : graph.State) (s t : machin
     → slice_get g.waiting p ≡ Some w → IsArrayOf code g shown.frames (suc p) k address width elements
     → KeepsOutside code g address (width * length elements) s t → ElementsStand t address width new
     → Arrives code input g (moved_to block point left taken written g) t
-    → Shows code input
+    → ShowsBehind code input g.point
     (next_state g.current.variables g.current.arrays
     (slice_set g.waiting p (wait_with (slice_set w.activation.arrays k new) w)) g.objects
     (moved_to block point left taken written g)) t
@@ -633,7 +632,7 @@ array-shows code input g s t o (InFrame k depth) address width elements new bloc
     -- the waiting one
     older : (o : Option Waiting) → slice_get g.waiting place ≡ o → (depth == depth_of g) ≡ false
         → elements_in code.program k (option_map (λ (w : Waiting). w.activation) o) ≡ Some (width, elements)
-        → Shows code input (record m { waiting = waiting_with k new place o g.waiting }) t
+        → ShowsBehind code input g.point (record m { waiting = waiting_with k new place o g.waiting }) t
     older None e test found = absurd (none-some (width, elements) found)
     older (Some w) e test found =
         waiting-shows code input g s t o place k address width w elements new block point left taken written supported
@@ -641,7 +640,7 @@ array-shows code input g s t o (InFrame k depth) address width elements new bloc
         (place-behind code g depth test at.youngest) (waiting-active g.waiting place w e) found at) keeps stand arrives
 
     chosen : (test : Bool) → (depth == depth_of g) ≡ test
-        → Shows code input
+        → ShowsBehind code input g.point
         (if test then record m { current = with_elements k new m.current }
         else record m { waiting = waiting_with k new place (slice_get m.waiting place) m.waiting }) t
     chosen true test =

@@ -22,7 +22,7 @@ use Rattle.flow_graph.specs.States as graph
 use Rattle.flow_graph.specs.States.{active_of, flow_at, number_of, op_at, value_at}
 use Rattle.flow_graph.specs.WellFormed.{IsState}
 use Rattle.flow_graph.proofs.Numbers.{byte-word, not-fits}
-use Rattle.ia32_rows.specs.Follows.{Follows}
+use Rattle.ia32_laws.proofs.Landing.{FollowsKept, followed}
 use Rattle.ia32_rows.specs.Placements.{Code, placement_of}
 use Rattle.ia32_rows.specs.Shows.{Shows, StandsIn}
 use Rattle.ia32_rows.specs.Sites.{Framed, Site}
@@ -38,7 +38,7 @@ use Rattle.ia32_laws.proofs.Zones.{shown-in-frame}
 use Rattle.ia32_laws.proofs.Puts.{IsLow, puts-follow}
 use Rattle.ia32_insn.specs.declared.register_names.Reg32.TheVariants.{Ebp}
 use Rattle.ia32_insn.specs.Meaning.{word_of}
-use Rattle.ia32_laws.proofs.Copies.{byte-in, byte-small}
+use Rattle.ia32_laws.proofs.Small.{byte-in, byte-small}
 use Rattle.ia32_laws.proofs.Words.{word-fits}
 use Rattle.ia32_laws.proofs.Ops.{at-after, at-before, given-number, has-number, op-is}
 
@@ -95,9 +95,10 @@ unary-follows : (how : ℕ → ℕ) (Row : Place → Place → List Item) (f : �
     → HasWidth (flow_at code.program g.current.function) a Two → IsSupported code → IsState code.program g
     → Shows code input g s → op_at code.program g ≡ Some o → RowAt code g (Row (after_at code g d) (before_at code g
     a)) s
-    → Follows code input s g false (given (number_of (value_at g a)) (λ x. sets code.program g d (Number (f x))))
+    → FollowsKept code input s g false (given (number_of (value_at g a)) (λ x. sets code.program g d (Number (f x))))
 unary-follows how Row f o d a code input g s puts changed sets_d reads_a leads wd wa supported state shown has r =
-    given-number (Follows code input s g false) (value_at g a) (λ x. sets code.program g d (Number (f x))) tt (λ x e.
+    given-number (FollowsKept code input s g false) (value_at g a) (λ x. sets code.program g d (Number (f x))) tt
+    (λ x e.
     let here = point-supported code g o supported state has in
     let (place, at) = here.written d sets_d in
     let for = here.after d place at in
@@ -118,15 +119,17 @@ unary-follows how Row f o d a code input g s puts changed sets_d reads_a leads w
 
 pub negation-follows : NegationFollows
 negation-follows d a code input g s supported state shown has r =
+    followed code input g s (op.Neg d a) false supported state has (
     let fits = (op-is code g (op.Neg d a) supported state has).fits in
     unary-follows negation (changing insn.Neg) _ (op.Neg d a) d a code input g s negation-puts negated refl (inl refl)
-    (λ next h. h) fits.0 fits.1.0 supported state shown has r
+    (λ next h. h) fits.0 fits.1.0 supported state shown has r)
 
 pub complement-follows : ComplementFollows
 complement-follows d a code input g s supported state shown has r =
+    followed code input g s (op.Not d a) false supported state has (
     let fits = (op-is code g (op.Not d a) supported state has).fits in
     unary-follows complement (changing insn.Not) _ (op.Not d a) d a code input g s complement-puts complemented refl
-    (inl refl) (λ next h. h) fits.0 fits.1.0 supported state shown has r
+    (inl refl) (λ next h. h) fits.0 fits.1.0 supported state shown has r)
 
 -- ---- a byte to a word
 
@@ -137,7 +140,8 @@ extended-word n b fits is =
 
 pub extension-follows : ExtensionFollows
 extension-follows d a code input g s supported state shown has r =
-    given-number (Follows code input s g false) (value_at g a) (λ x. sets code.program g d (Number x)) tt (λ x e.
+    followed code input g s (op.Wide d a) false supported state has (
+    given-number (FollowsKept code input s g false) (value_at g a) (λ x. sets code.program g d (Number x)) tt (λ x e.
     let o : Op = op.Wide d a in
     let here = point-supported code g o supported state has in
     let fits = (op-is code g o supported state has).fits in
@@ -162,4 +166,4 @@ extension-follows d a code input g s supported state shown has r =
     four
     for_to.inside for_from.inside contains (byte-small (Number x) b byte))
     (subst (λ (v : Option Width). IsLow code (active_of g) shown.frames v (Number x) (extended8 b)) (sym fits.0) low)
-    tt)
+    tt))

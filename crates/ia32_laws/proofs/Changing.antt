@@ -19,7 +19,7 @@ use Rattle.flow_graph.specs.States as graph
 use Rattle.flow_graph.specs.States.{Activation, active_of, flow_at, number_of, op_at, value_at}
 use Rattle.flow_graph.specs.WellFormed.{IsState}
 use Rattle.flow_graph.proofs.Numbers.{half-word}
-use Rattle.ia32_rows.specs.Follows.{Follows}
+use Rattle.ia32_laws.proofs.Landing.{FollowsKept, followed}
 use Rattle.ia32_rows.specs.Placements.{Code, placement_of}
 use Rattle.ia32_rows.specs.Shows.{Shows}
 use Rattle.ia32_rows.specs.Sites.{Framed, Site}
@@ -52,9 +52,10 @@ one-follows : (how : ℕ → ℕ) (Row : Place → Place → List Item) (f : ℤ
     → HasWidth (flow_at code.program g.current.function) a Two → IsSupported code → IsState code.program g
     → Shows code input g s → op_at code.program g ≡ Some o
     → RowAt code g (Row (after_at code g d) (before_at code g a)) s
-    → Follows code input s g false (given (number_of (value_at g a)) (λ x. sets code.program g d (Number (f x))))
+    → FollowsKept code input s g false (given (number_of (value_at g a)) (λ x. sets code.program g d (Number (f x))))
 one-follows how Row f width o d a code input g s puts low sets_d reads_a leads wd wa supported state shown has r =
-    given-number (Follows code input s g false) (value_at g a) (λ x. sets code.program g d (Number (f x))) tt (λ x e.
+    given-number (FollowsKept code input s g false) (value_at g a) (λ x. sets code.program g d (Number (f x))) tt
+    (λ x e.
     let here = point-supported code g o supported state has in
     let (place, at) = here.written d sets_d in
     let for = here.after d place at in
@@ -72,14 +73,16 @@ one-follows how Row f width o d a code input g s puts low sets_d reads_a leads w
 
 pub low-follows : LowFollows
 low-follows d a code input g s supported state shown has r =
+    followed code input g s (op.Low d a) false supported state has (
     let fits = (op-is code g (op.Low d a) supported state has).fits in
     one-follows (λ x. x) lowering (int_wrap w8) One (op.Low d a) d a code input g s low-puts
     (λ active frames x f. (SFits-int_wrap w8 x, low-byte x f)) refl (inl refl) (λ next h. h) fits.0 fits.1.0 supported
-    state shown has r
+    state shown has r)
 
 pub half-follows : HalfFollows
 half-follows d a code input g s supported state shown has r =
+    followed code input g s (op.Low16 d a) false supported state has (
     let fits = (op-is code g (op.Low16 d a) supported state has).fits in
     one-follows (λ x. extended16 (x % 2 ^ 16)) halving (int_wrap w16) Two (op.Low16 d a) d a code input g s half-puts
     (λ active frames x f. (half-word (int_wrap w16 x) (SFits-int_wrap w16 x), sym (low-half-is x f))) refl (inl refl)
-    (λ next h. h) fits.0 fits.1.0 supported state shown has r
+    (λ next h. h) fits.0 fits.1.0 supported state shown has r)

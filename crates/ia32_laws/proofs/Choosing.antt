@@ -1,6 +1,6 @@
 -- The machine follows a branch on a comparison of two numbers.
 use Rattle.std.proofs.Common.{◌≡◌, ℕ, Bool, true, false, ℤ, List, ◌∷◌, ◌++◌, Option, Some, None}
-use Rattle.std.proofs.Common.{inl, inr, refl, sym, ap, subst, ◌∙◌, arith}
+use Rattle.std.proofs.Common.{inl, inr, refl, sym, ap, subst, ◌∙◌, append_assoc, arith}
 use Rattle.std.specs.Prelude.{drop, slice_get, unwrap_or, if◌then◌else◌, []}
 use Rattle.std.specs.Int.{w32, cast_unsigned}
 use Rattle.std.proofs.lemmas.Int.{to_z-of_z}
@@ -22,14 +22,18 @@ use Rattle.flow_graph.specs.States as graph
 use Rattle.flow_graph.specs.States.{array_at, entry_of, flow_at, number_at, op_at, value_at}
 use Rattle.flow_graph.specs.WellFormed.{IsState}
 use Rattle.flow_graph.proofs.Values.{number-is}
-use Rattle.ia32_rows.specs.Follows.{Follows}
+use Rattle.ia32_rows.specs.Follows.{ComesTo}
+use Rattle.ia32_laws.specs.CoresLaws.{IsOnTheWay}
+use Rattle.ia32_laws.specs.KeepsLaws.{moved_to}
+use Rattle.ia32_laws.specs.MovesLaws.{ShowsBehind}
+use Rattle.ia32_laws.proofs.Landing.{FollowsKept, followed, lands}
+use Rattle.ia32_laws.proofs.Moving.{moves-jump}
 use Rattle.ia32_rows.specs.Paths.{Comes}
-use Rattle.ia32_rows.specs.Placements.{Code, placement_of}
+use Rattle.ia32_rows.specs.Placements.{Code, Placement, placement_of}
 use Rattle.ia32_rows.specs.Shows.{Shows}
 use Rattle.ia32_rows.specs.Sites.{Anywhere, Framed, ReadyAt, Site, StandsFrom}
-use Rattle.ia32_rows.proofs.Jumps.{jump-leads}
 use Rattle.ia32_rows.proofs.Sound.{sound-at}
-use Rattle.ia32_rows.proofs.Steps.{point-passed}
+use Rattle.ia32_rows.proofs.Steps.{comes-not, comes-then}
 use Rattle.ia32_rows.specs.Effects.{Keeps, OutsideWord}
 use Rattle.ia32_rows.specs.Contains.{IsPlaceIn}
 use Rattle.ia32_rows.proofs.Kept.{PlaceHasCells, PlaceHasMemory, contains-kept, keeps-same, other-cells, word-kept}
@@ -37,14 +41,13 @@ use Rattle.ia32_rows.proofs.Moves.{byte-below, general-below}
 use Rattle.ia32_laws.specs.Supports.{IsSupported, site_of}
 use Rattle.ia32_laws.specs.Protected.{KeepsShown}
 use Rattle.ia32_laws.specs.KeepsOps.{before_at}
-use Rattle.ia32_laws.proofs.Memory.{address-at}
 use Rattle.ia32_laws.proofs.Shown.{moved-shows, point-supported}
 use Rattle.ia32_laws.proofs.Zones.{shown-in-frame}
-use Rattle.ia32_laws.proofs.Puts.{at-own-address, keeps-at}
+use Rattle.ia32_laws.proofs.Elsewhere.{at-own-address, keeps-at}
 use Rattle.ia32_laws.proofs.Words.{word-fits}
 use Rattle.ia32_laws.proofs.Ops.{HasNumber, has-number, op-is}
-use Rattle.ia32_rows.specs.Rows.{branching, jumping}
-use Rattle.ia32_laws.specs.CoresOps.{BlockAt, JumpFollows, NumbersBranchFollow}
+use Rattle.ia32_rows.specs.Rows.{branching, jumping, loop_label, moves_into, moves_to}
+use Rattle.ia32_laws.specs.CoresOps.{BlockAt, JumpFollows, NumbersBranchFollow, branch_at}
 use Rattle.ia32_laws.proofs.Beside.{same-from}
 use Rattle.ia32_laws.proofs.Branches.{branch-goes}
 
@@ -89,55 +92,97 @@ first-in : (q : ℕ) (ps : List ℕ) → slice_get ps 0 ≡ Some q → IsIn q ps
 first-in q [] e = absurd (none-some q e)
 first-in q (p ∷ ps) e = inl (same_Some p q e)
 
--- a branch to a block whose label is chosen
+-- on the way to a block
 pub enters : (code : Code) (input : List ℕ) (g : graph.State) (s u : machine.State) (o : Op) (block after : ℕ)
-    (back : List Item) → IsSupported code → IsState code.program g → Shows code input g s
+    → IsSupported code → IsState code.program g → Shows code input g s
     → op_at code.program g ≡ Some o → defined o ≡ None
     → ((next : ℕ) → BeginsWith (flow_at code.program g.current.function) block next
     → LeadsTo (flow_at code.program g.current.function) g.point next o)
     → Framed (site_of code g.current.function) (placement_of code g.current.function).frame u
     → Keeps (OutsideWord Esi) Anywhere s u → Comes code.text s (at_address after u)
-    → ReadyAt (site_of code g.current.function) back (at_address after u)
-    → ((q : ℕ) → entry_of code.program g.current.function block ≡ Some q
-    → (more : List Item) × (back ≡ item.Point q ∷ more))
-    → Follows code input s g false (into_block code.program block g)
-enters code input g s u o block after back supported state shown has none leads framed keeps comes ready begins =
+    → (to : BlockAt code g block)
+    → IsOnTheWay (site_of code g.current.function)
+    (moves_into (flow_at code.program g.current.function) (placement_of code g.current.function) g.point block) block
+    to.back (at_address after u)
+    → FollowsKept code input s g false (into_block code.program block g)
+enters code input g s u o block after supported state shown has none leads framed keeps comes to way =
     follow (entry_of code.program g.current.function block) refl
   where
     site : Site
     site = site_of code g.current.function
 
+    placement : Placement
+    placement = placement_of code g.current.function
+
+    t : machine.State
+    t = at_address after u
+
     follow : (next : Option ℕ) → entry_of code.program g.current.function block ≡ next
-        → Follows code input s g false (at_point block g next)
+        → FollowsKept code input s g false (at_point block g next)
     follow None e = tt
-    follow (Some q) e =
-        let t : machine.State = at_address after u in
-        let more = begins q e in
-        let there : ReadyAt site (item.Point q ∷ more.0) t =
-        subst (λ (xs : List Item). ReadyAt site xs t) more.1 ready in
-        let point = point-passed site.symbols site.places site.text q more.0 t there in (
-          t,
-          comes,
-          moved-shows code input g s t o block q g.left g.taken g.written supported state shown has none
-              (keeps-at code g shown.frames None after s u
-              (scratch-keeps code g shown.frames s u o supported state has keeps))
-              (record {
-                leads = ((g.block, state.placed), o, has, leads q e);
-                placed = first-in q (points_of (flow_at code.program g.current.function) block) e;
-                sound = sound-at site.text site.low site.high after u framed.sound;
-                eip = sym point.0 ∙ sym (address-at code.places g.current.function q);
-                left = keeps.left ∙ shown.left;
-                taken = keeps.taken ∙ shown.taken;
-                written = keeps.written ∙ shown.written;
-                of_input = keeps.left ∙ shown.of_input ∙ ap (λ (k : ℕ). drop k input) (sym keeps.taken);
-              }),
-        )
+    follow (Some q) e = λ kept.
+        let h : graph.State = moved_to block q g.left g.taken g.written g in
+        let moves : moves_to placement g.point (entry_of code.program g.current.function block)
+        ≡ moves_to placement g.point (Some q) = ap (moves_to placement g.point) e in
+        let behind : ShowsBehind code input g.point h t =
+        moved-shows code input g s t o block q g.left g.taken g.written supported state shown has none
+        (keeps-at code g shown.frames None after s u
+        (scratch-keeps code g shown.frames s u o supported state has keeps))
+        (record {
+          leads = ((g.block, state.placed), o, has, leads q e);
+          placed = first-in q (points_of (flow_at code.program g.current.function) block) e;
+          sound = sound-at site.text site.low site.high after u framed.sound;
+          left = keeps.left ∙ shown.left;
+          taken = keeps.taken ∙ shown.taken;
+          written = keeps.written ∙ shown.written;
+          of_input = keeps.left ∙ shown.of_input ∙ ap (λ (k : ℕ). drop k input) (sym keeps.taken);
+        }) in
+        let (more, is) = to.begins q e in
+        arrive q e kept more is moves behind way
+      where
+        arrive : (q : ℕ) → entry_of code.program g.current.function block ≡ Some q → IsState code.program
+            (moved_to block q g.left g.taken g.written g) → (more : List Item)
+            → to.back ≡ item.Point q ∷ more
+            → moves_to placement g.point (entry_of code.program g.current.function block)
+            ≡ moves_to placement g.point (Some q)
+            → ShowsBehind code input g.point (moved_to block q g.left g.taken g.written g) t
+            → IsOnTheWay site (moves_to placement g.point (entry_of code.program g.current.function block)) block
+            to.back t
+            → ComesTo code input s (moved_to block q g.left g.taken g.written g)
+        arrive q e kept more is moves behind (inl (rest, ready)) =
+            let items : List Item = moves_to placement g.point (Some q) in
+            let here : ReadyAt site (items ++ item.JumpTo block ∷ rest) t =
+            subst (λ (xs : List Item). ReadyAt site xs t)
+            (ap (λ (xs : List Item). (xs ++ item.JumpTo block ∷ []) ++ rest) moves
+            ∙ append_assoc items (item.JumpTo block ∷ []) rest) ready in
+            let there : StandsFrom site (to.front ++ (item.Label block ∷ item.Point q ∷ more)) to.start =
+            subst (λ (xs : List Item). StandsFrom site (to.front ++ (item.Label block ∷ xs)) to.start) is to.stands in
+            let last = moves-jump code input (moved_to block q g.left g.taken g.written g) t g.point block to.front more
+            rest to.start supported kept ((g.block, state.placed), o, has, leads q e) behind here there in
+            (last.0, comes-then code.text s t last.0 comes last.1, last.2)
+        arrive q e kept more is moves behind (inr (nothing, ready)) =
+            lands code input g.point (moved_to block q g.left g.taken g.written g) g.current.function q refl refl s t
+            to.back more supported kept ((g.block, state.placed), o, has, leads q e) comes ready
+            (is ∙ ap (λ (xs : List Item). xs ++ item.Point q ∷ more) (sym nothing ∙ moves)) behind
+
+-- the way that a condition chooses leads to the block that it chooses
+pub way-of : (code : Code) (g : graph.State) (first second : ℕ) (back : List Item) (t : machine.State) (c : Bool)
+    → IsOnTheWay (site_of code g.current.function)
+    (if c then moves_into (flow_at code.program g.current.function) (placement_of code g.current.function) g.point first
+    else moves_into (flow_at code.program g.current.function) (placement_of code g.current.function) g.point second)
+    (if c then first else second) back t
+    → IsOnTheWay (site_of code g.current.function)
+    (moves_into (flow_at code.program g.current.function) (placement_of code g.current.function) g.point
+    (if c then first else second)) (if c then first else second) back t
+way-of code g first second back t true way = way
+way-of code g first second back t false way = way
 
 pub numbers-branch-follow : NumbersBranchFollow
 numbers-branch-follow how a b first second code input g s x y rest supported state shown has a_is b_is one_at two_at
     ready =
-    subst (λ (v : Option Bool). Follows code input s g false (given v go)) (sym known)
-    (chosen (compared how (signed m) (signed n)) refl)
+    followed code input g s (op.Branch how a b first second) false supported state has (
+    subst (λ (v : Option Bool). FollowsKept code input s g false (given v go)) (sym known)
+    (chosen (compared how (signed m) (signed n)) refl))
   where
     site : Site
     site = site_of code g.current.function
@@ -182,14 +227,25 @@ numbers-branch-follow how a b first second code input g s x y rest supported sta
 
     own : at_address s.eip s ≡ s
     own = at-own-address code g.current.function
-        (branching how (before_at code g a) (before_at code g b) first second ++ rest) s supported ready
+        (branch_at how a b first second code g ++ rest) s supported ready
 
-    here : ReadyAt site (branching how one.place two.place first second ++ rest) (at_address s.eip s)
+    -- the moves on the way to a block
+    moves : ℕ → List Item
+    moves block =
+        moves_into (flow_at code.program g.current.function) (placement_of code g.current.function) g.point block
+
+    -- the row, by where the two variables stand
+    row : Place → Place → List Item
+    row p q =
+        branching how (loop_label (flow_at code.program g.current.function) g.point) p q (moves first) (moves second)
+        first second ++ rest
+
+    here : ReadyAt site (row one.place two.place) (at_address s.eip s)
     here =
-        subst (λ (v : machine.State). ReadyAt site (branching how one.place two.place first second ++ rest) v) (sym own)
-        (subst (λ (p : Place). ReadyAt site (branching how one.place p first second ++ rest) s)
+        subst (λ (v : machine.State). ReadyAt site (row one.place two.place) v) (sym own)
+        (subst (λ (p : Place). ReadyAt site (row one.place p) s)
         (ap (λ (v : Option Place). unwrap_or v (InSlot 0)) two.at)
-        (subst (λ (p : Place). ReadyAt site (branching how p (before_at code g b) first second ++ rest) s)
+        (subst (λ (p : Place). ReadyAt site (row p (before_at code g b)) s)
         (ap (λ (v : Option Place). unwrap_or v (InSlot 0)) one.at) ready))
 
     block : (c : Bool) → BlockAt code g (if c then first else second)
@@ -202,28 +258,36 @@ numbers-branch-follow how a b first second code input g s x y rest supported sta
     behind true next h = inl h
     behind false next h = inr h
 
-    chosen : (c : Bool) → compared how (signed m) (signed n) ≡ c → Follows code input s g false (go c)
+    chosen : (c : Bool) → compared how (signed m) (signed n) ≡ c → FollowsKept code input s g false (go c)
     chosen c is =
         let to = block c in
         let stands = subst (λ (v : Bool).
         StandsFrom site (to.front ++ (item.Label (if v then first else second) ∷ to.back)) to.start) (sym is)
         to.stands in
-        let went = branch-goes site frame how one.place two.place first second m n s s.eip to.front to.back rest
+        let went = branch-goes site frame how (loop_label (flow_at code.program g.current.function) g.point) one.place
+        two.place (moves first) (moves second) first second m n s s.eip to.front to.back rest
         to.start (shown-in-frame code input g s supported state shown).framed one.holds one.inside two.holds two.inside
         one.contains two.contains (word-fits x one.fits) (word-fits y two.fits) here stands in
-        enters code input g s went.0 o (if c then first else second) went.3 to.back supported state shown has refl
+        enters code input g s went.0 o (if c then first else second) went.3 supported state shown has refl
         (behind c) went.1 went.2
-        (subst (λ (v : machine.State). Comes code.text v (at_address went.3 went.0)) own went.4) went.5 to.begins
+        (subst (λ (v : machine.State). Comes code.text v (at_address went.3 went.0)) own went.4) to
+        (way-of code g first second to.back (at_address went.3 went.0) c
+        (subst (λ (v : Bool). IsOnTheWay site (if v then moves first else moves second) (if v then first else second)
+        to.back (at_address went.3 went.0)) is went.5))
 
 -- ---- a jump
 
 pub jump-follows : JumpFollows
 jump-follows block code input g s rest supported state shown has at ready =
+    followed code input g s (op.Jump block) false supported state has (
     let site : Site = site_of code g.current.function in
+    let moves : List Item =
+    moves_into (flow_at code.program g.current.function) (placement_of code g.current.function) g.point block in
     let framed : Framed site (placement_of code g.current.function).frame s =
     (shown-in-frame code input g s supported state shown).framed in
-    let own : at_address s.eip s ≡ s = at-own-address code g.current.function (jumping block ++ rest) s supported ready
-    in
-    let went = jump-leads site at.front at.back rest at.start block s framed.sound at.stands ready in
-    enters code input g s s (op.Jump block) block went.0 at.back supported state shown has refl (λ next h. h) framed
-    (keeps-same (OutsideWord Esi) Anywhere s) went.1 went.2 at.begins
+    let own : at_address s.eip s ≡ s =
+    at-own-address code g.current.function (jumping moves block ++ rest) s supported ready in
+    enters code input g s s (op.Jump block) block s.eip supported state shown has refl (λ next h. h) framed
+    (keeps-same (OutsideWord Esi) Anywhere s)
+    (subst (λ (v : machine.State). Comes code.text s v) (sym own) (comes-not code.text s)) at
+    (inl (rest, subst (λ (v : machine.State). ReadyAt site (jumping moves block ++ rest) v) (sym own) ready)))

@@ -20,6 +20,7 @@ use Rattle.flow_graph.specs.WellFormed.{AreElementsOf, IsState}
 use Rattle.flow_graph.proofs.Lists.{zip-second}
 use Rattle.flow_graph.proofs.Values.{graph-of}
 use Rattle.ia32_rows.specs.Follows.{Follows, is_nop}
+use Rattle.ia32_laws.proofs.Landing.{FollowsKept, followed}
 use Rattle.ia32_rows.specs.Placements.{Code, placement_of}
 use Rattle.ia32_rows.specs.Shows.{ElementsStand, Shows}
 use Rattle.ia32_rows.specs.Sites.{Framed, Site}
@@ -77,12 +78,13 @@ pub clear-follows : (k label distance : ℕ) (array : ℕ × ℕ) (code : Code) 
     → RowAt code g (clear_row label distance (size_of array)) s
     → Follows code input s g (is_nop (Some (op.Clear k))) (act code.program g (op.Clear k))
 clear-follows k label distance array code input g s supported state shown has declared placed r =
-    subst (λ (o : Option (List ℤ)). Follows code input s g false (given o (λ zs.
+    followed code input g s (op.Clear k) false supported state has (
+    subst (λ (o : Option (List ℤ)). FollowsKept code input s g false (given o (λ zs.
     onward code.program (with_array (InFrame k (depth_of g)) (replicate (length zs) (pos 0)) g)))) (sym there)
     (array-follows code input g s u o (InFrame k (depth_of g)) new r.rest supported state shown has (λ next h. h)
     c.sound c.comes c.ready r.follows c.left c.taken c.written (λ q arrives.
     own-array-shows code input g s u o k distance array elements new g.block q g.left g.taken g.written supported state
-    shown has refl there declared placed outside stand arrives))
+    shown has refl there declared placed outside stand arrives)))
   where
     o : Op
     o = op.Clear k

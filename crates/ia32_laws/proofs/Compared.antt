@@ -29,7 +29,7 @@ use Rattle.ia32_rows.specs.Placements.{Code, placement_of}
 use Rattle.ia32_rows.specs.Shows.{IsArrayAt, IsWord, Shows, StandsIn}
 use Rattle.ia32_rows.specs.Contains.{Contains, HoldsWord, IsPlaceIn}
 use Rattle.ia32_laws.specs.Supports.{HoldsWidth, IsSupported}
-use Rattle.ia32_laws.proofs.Copies.{word-small}
+use Rattle.ia32_laws.proofs.Small.{word-small}
 use Rattle.ia32_laws.proofs.Shown.{point-supported}
 use Rattle.ia32_laws.proofs.Addresses.{addresses-tell}
 

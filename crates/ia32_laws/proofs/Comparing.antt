@@ -23,24 +23,26 @@ use Rattle.flow_graph.specs.Liveness.{BeginsWith, LeadsTo}
 use Rattle.flow_graph.specs.Meaning.{Halts, Moved, compared, comparison, given, into_block, onward, sets}
 use Rattle.flow_graph.specs.States as graph
 use Rattle.flow_graph.specs.States.{active_of, flow_at, op_at}
-use Rattle.ia32_rows.specs.Follows.{Follows}
+use Rattle.ia32_laws.proofs.Landing.{FollowsKept, followed}
 use Rattle.ia32_rows.specs.Paths.{Comes}
 use Rattle.ia32_rows.specs.Placements.{Code, placement_of}
 use Rattle.ia32_rows.specs.Sites.{Anywhere, Framed, ReadyAt, Site, StandsFrom}
 use Rattle.ia32_rows.proofs.Sound.{sound-at}
 use Rattle.ia32_rows.proofs.Steps.{comes-then}
-use Rattle.ia32_rows.specs.Rows.{branching, comparing, same_row, setting}
+use Rattle.ia32_rows.specs.Rows.{branching, comparing, loop_label, moves_into, same_row, setting}
 use Rattle.ia32_rows.specs.Effects.{Keeps, OutsideWord}
 use Rattle.ia32_rows.proofs.Straight.{straight-goes}
 use Rattle.ia32_laws.specs.Supports.{HoldsWidth, site_of}
 use Rattle.ia32_laws.specs.KeepsOps.{before_at}
 use Rattle.ia32_laws.proofs.Ops.{at-after, at-before, holds-word, op-is}
-use Rattle.ia32_laws.proofs.Puts.{IsLow, at-own-address, puts-follow}
+use Rattle.ia32_laws.proofs.Puts.{IsLow, puts-follow}
+use Rattle.ia32_laws.proofs.Elsewhere.{at-own-address}
 use Rattle.ia32_laws.proofs.Shown.{point-supported}
 use Rattle.ia32_laws.proofs.Zones.{shown-in-frame}
-use Rattle.ia32_laws.specs.CoresOps.{BlockAt}
+use Rattle.ia32_laws.specs.CoresLaws.{IsOnTheWay}
+use Rattle.ia32_laws.specs.CoresOps.{BlockAt, branch_at}
 use Rattle.ia32_laws.proofs.Branches.{branch-goes}
-use Rattle.ia32_laws.proofs.Choosing.{enters, scratch-keeps}
+use Rattle.ia32_laws.proofs.Choosing.{enters, scratch-keeps, way-of}
 use Rattle.ia32_laws.proofs.Conditions.{set-puts}
 use Rattle.ia32_laws.proofs.Flags.{places-compare}
 use Rattle.ia32_laws.proofs.Numbers.{comparison-decides}
@@ -59,7 +61,9 @@ flag-low code g frames true = (record { sfits = omega arith }, refl)
 flag-low code g frames false = (record { sfits = omega arith }, refl)
 
 pub set-follows : SetFollows
-set-follows how d a b code input g s h state shown has r = chosen (comparison how g a b) refl
+set-follows how d a b code input g s h state shown has r =
+    followed code input g s (op.Set how d a b) false h state has (
+    chosen (comparison how g a b) refl)
   where
     o : Op
     o = op.Set how d a b
@@ -76,7 +80,7 @@ set-follows how d a b code input g s h state shown has r = chosen (comparison ho
     go : Bool → Moved
     go c = sets code.program g d (Number (if c then pos 1 else pos 0))
 
-    chosen : (c : Option Bool) → comparison how g a b ≡ c → Follows code input s g false (given c go)
+    chosen : (c : Option Bool) → comparison how g a b ≡ c → FollowsKept code input s g false (given c go)
     chosen None e = tt
     chosen (Some t) e =
         let here = point-supported code g o h state has in
@@ -103,7 +107,9 @@ set-follows how d a b code input g s h state shown has r = chosen (comparison ho
 -- ---- a check
 
 pub same-follows : SameFollows
-same-follows a b code input g s h state shown has r = chosen (comparison Eq g a b) refl
+same-follows a b code input g s h state shown has r =
+    followed code input g s (op.Same a b) false h state has (
+    chosen (comparison Eq g a b) refl)
   where
     site : Site
     site = site_of code g.current.function
@@ -129,7 +135,7 @@ same-follows a b code input g s h state shown has r = chosen (comparison Eq g a 
     ends : (u : machine.State) (address : ℕ) (rest : List Item) (c : Bool) → Framed site frame u
         → Keeps (OutsideWord Esi) Anywhere s u → Comes code.text s (at_address address u)
         → ReadyAt site (item.JumpTrap (Some cond.Ne) ∷ rest) (at_address address u) → IsNext code g rest
-        → holds cond.Ne u.flags ≡ Some (not c) → Follows code input s g false (go c)
+        → holds cond.Ne u.flags ≡ Some (not c) → FollowsKept code input s g false (go c)
     ends u address rest true framed keeps comes ready next decided =
         let t : machine.State = at_address address u in
         let last = check-passes site cond.Ne rest t (sound-at site.text site.low site.high address u framed.sound)
@@ -149,7 +155,7 @@ same-follows a b code input g s h state shown has r = chosen (comparison Eq g a 
           keeps.written ∙ shown.written,
         )
 
-    chosen : (c : Option Bool) → comparison Eq g a b ≡ c → Follows code input s g false (given c go)
+    chosen : (c : Option Bool) → comparison Eq g a b ≡ c → FollowsKept code input s g false (given c go)
     chosen None e = tt
     chosen (Some t) e =
         let row = at-before code g s b two.place (λ p. same_row one.place p) two.at
@@ -176,7 +182,8 @@ same-follows a b code input g s h state shown has r = chosen (comparison Eq g a 
 
 pub branch-follows : BranchFollows
 branch-follows how a b first second code input g s rest h state shown has one_at two_at ready =
-    chosen (comparison how g a b) refl
+    followed code input g s (op.Branch how a b first second) false h state has (
+    chosen (comparison how g a b) refl)
   where
     site : Site
     site = site_of code g.current.function
@@ -201,14 +208,25 @@ branch-follows how a b first second code input g s rest h state shown has one_at
 
     own : at_address s.eip s ≡ s
     own = at-own-address code g.current.function
-        (branching how (before_at code g a) (before_at code g b) first second ++ rest) s h ready
+        (branch_at how a b first second code g ++ rest) s h ready
 
-    here : ReadyAt site (branching how one.place two.place first second ++ rest) (at_address s.eip s)
+    -- the moves on the way to a block
+    moves : ℕ → List Item
+    moves block =
+        moves_into (flow_at code.program g.current.function) (placement_of code g.current.function) g.point block
+
+    -- the row, by where the two variables stand
+    row : Place → Place → List Item
+    row p q =
+        branching how (loop_label (flow_at code.program g.current.function) g.point) p q (moves first) (moves second)
+        first second ++ rest
+
+    here : ReadyAt site (row one.place two.place) (at_address s.eip s)
     here =
-        subst (λ (v : machine.State). ReadyAt site (branching how one.place two.place first second ++ rest) v) (sym own)
-        (subst (λ (p : Place). ReadyAt site (branching how one.place p first second ++ rest) s)
+        subst (λ (v : machine.State). ReadyAt site (row one.place two.place) v) (sym own)
+        (subst (λ (p : Place). ReadyAt site (row one.place p) s)
         (ap (λ (v : Option Place). unwrap_or v (InSlot 0)) two.at)
-        (subst (λ (p : Place). ReadyAt site (branching how p (before_at code g b) first second ++ rest) s)
+        (subst (λ (p : Place). ReadyAt site (row p (before_at code g b)) s)
         (ap (λ (v : Option Place). unwrap_or v (InSlot 0)) one.at) ready))
 
     block : (c : Bool) → BlockAt code g (if c then first else second)
@@ -221,20 +239,24 @@ branch-follows how a b first second code input g s rest h state shown has one_at
     behind true next k = inl k
     behind false next k = inr k
 
-    led : (c : Bool) → compared how (signed one.word) (signed two.word) ≡ c → Follows code input s g false (go c)
+    led : (c : Bool) → compared how (signed one.word) (signed two.word) ≡ c → FollowsKept code input s g false (go c)
     led c is =
         let to = block c in
         let stands = subst (λ (v : Bool).
         StandsFrom site (to.front ++ (item.Label (if v then first else second) ∷ to.back)) to.start) (sym is)
         to.stands in
-        let went = branch-goes site frame how one.place two.place first second one.word two.word s s.eip to.front
+        let went = branch-goes site frame how (loop_label (flow_at code.program g.current.function) g.point) one.place
+        two.place (moves first) (moves second) first second one.word two.word s s.eip to.front
         to.back rest to.start (shown-in-frame code input g s h state shown).framed one.holds one.inside two.holds
         two.inside
         one.contains two.contains one.small two.small here stands in
-        enters code input g s went.0 o (if c then first else second) went.3 to.back h state shown has refl
+        enters code input g s went.0 o (if c then first else second) went.3 h state shown has refl
         (behind c) went.1 went.2
-        (subst (λ (v : machine.State). Comes code.text v (at_address went.3 went.0)) own went.4) went.5 to.begins
+        (subst (λ (v : machine.State). Comes code.text v (at_address went.3 went.0)) own went.4) to
+        (way-of code g first second to.back (at_address went.3 went.0) c
+        (subst (λ (v : Bool). IsOnTheWay site (if v then moves first else moves second) (if v then first else second)
+        to.back (at_address went.3 went.0)) is went.5))
 
-    chosen : (c : Option Bool) → comparison how g a b ≡ c → Follows code input s g false (given c go)
+    chosen : (c : Option Bool) → comparison how g a b ≡ c → FollowsKept code input s g false (given c go)
     chosen None e = tt
     chosen (Some t) e = led t (words-decide code input g s h state shown how a b t one two e)

@@ -23,14 +23,14 @@ use Rattle.flow_graph.specs.States as graph
 use Rattle.flow_graph.specs.States.{active_of, flow_at, number_of, op_at, value_at}
 use Rattle.flow_graph.specs.WellFormed.{IsState}
 use Rattle.flow_graph.proofs.Numbers.{shift-fits}
-use Rattle.ia32_rows.specs.Follows.{Follows}
+use Rattle.ia32_laws.proofs.Landing.{FollowsKept, followed}
 use Rattle.ia32_rows.specs.Placements.{Code, placement_of}
 use Rattle.ia32_rows.specs.Shows.{Shows, StandsIn}
 use Rattle.ia32_rows.specs.Laws.{ArePlacesApart}
 use Rattle.ia32_rows.proofs.Kept.{PlaceHasCells}
 use Rattle.ia32_laws.specs.Supports.{HoldsWidth, IsSpared, IsSupported, site_of}
 use Rattle.ia32_laws.specs.KeepsOps.{RowAt, after_at, before_at}
-use Rattle.ia32_laws.proofs.Copies.{byte-in, byte-small}
+use Rattle.ia32_laws.proofs.Small.{byte-in, byte-small}
 use Rattle.ia32_laws.proofs.Shown.{point-supported}
 use Rattle.ia32_laws.proofs.Zones.{shown-in-frame}
 use Rattle.ia32_laws.proofs.Puts.{IsLow}
@@ -75,13 +75,14 @@ shift-follows : (how : ShiftOp) (f : ℤ → ℤ → ℤ) (o : Op) (d a c : ℕ)
     → HasWidth (flow_at code.program g.current.function) c One → IsSupported code → IsState code.program g
     → Shows code input g s → op_at code.program g ≡ Some o
     → RowAt code g (shifting how (after_at code g d) (before_at code g a) (before_at code g c)) s
-    → Follows code input s g false (given (number_of (value_at g a))
+    → FollowsKept code input s g false (given (number_of (value_at g a))
     (λ x. given (number_of (value_at g c)) (λ n. sets code.program g d (Number (f x n)))))
 shift-follows how f o d a c code input g s shifted spares sets_d reads_a reads_c leads wd wa wc supported state shown
     has r =
-    given-number (Follows code input s g false) (value_at g a)
+    given-number (FollowsKept code input s g false) (value_at g a)
     (λ x. given (number_of (value_at g c)) (λ n. sets code.program g d (Number (f x n)))) tt (λ x e.
-    given-number (Follows code input s g false) (value_at g c) (λ n. sets code.program g d (Number (f x n))) tt (λ n k.
+    given-number (FollowsKept code input s g false) (value_at g c) (λ n. sets code.program g d (Number (f x n))) tt
+    (λ n k.
     let here = point-supported code g o supported state has in
     let (place, at) = here.written d sets_d in
     let (count, before) = here.read c reads_c in
@@ -113,16 +114,18 @@ shift-follows how f o d a c code input g s shifted spares sets_d reads_a reads_c
 
 pub left-shift-follows : LeftShiftFollows
 left-shift-follows d a c code input g s supported state shown has r =
+    followed code input g s (op.Shl d a c) false supported state has (
     let fits = (op-is code g (op.Shl d a c) supported state has).fits in
     shift-follows shift.Shl (λ x n. int_wrap w32 (x *ℤ pos (2 ^ shift_count n))) (op.Shl d a c) d a c code input g s
     (record { fits = λ x n h. SFits-int_wrap w32 (x *ℤ pos (2 ^ shift_count n)); word = left-shift-is })
     (shift-spares (op.Shl d a c) (λ q h. h)) refl (inl refl) (inr (inl refl)) (λ next h. h) fits.0 fits.1.0 fits.1.1.0
-    supported state shown has r
+    supported state shown has r)
 
 pub right-shift-follows : RightShiftFollows
 right-shift-follows d a c code input g s supported state shown has r =
+    followed code input g s (op.Sar d a c) false supported state has (
     let fits = (op-is code g (op.Sar d a c) supported state has).fits in
     shift-follows shift.Sar (λ x n. shifted_right x (shift_count n)) (op.Sar d a c) d a c code input g s
     (record { fits = λ x n h. shift-fits x (shift_count n) h; word = right-shift-is })
     (shift-spares (op.Sar d a c) (λ q h. h)) refl (inl refl) (inr (inl refl)) (λ next h. h) fits.0 fits.1.0 fits.1.1.0
-    supported state shown has r
+    supported state shown has r)

@@ -14,7 +14,6 @@ use Rattle.ia32_insn.specs.Places.{Place, InWord, InByte, InSlot}
 use Rattle.ia32_insn.specs.declared.operand.Rm32.TheVariants as rm
 use Rattle.ia32_insn.specs.declared.insn.Insn.TheVariants as insn
 use Rattle.ia32_insn.specs.declared.item.Item.{Item}
-use Rattle.ia32_insn.specs.declared.item.Item.TheVariants as item
 use Rattle.ia32_insn.specs.State as machine
 use Rattle.ia32_insn.specs.State.{at_address}
 use Rattle.ia32_insn.specs.Arithmetic.{extended16}
@@ -34,13 +33,13 @@ use Rattle.flow_graph.specs.States.{Elements, active_of, depth_of, elements_of, 
 use Rattle.flow_graph.specs.States.{waiting_place, waiting_with, with_array, with_element, with_elements}
 use Rattle.flow_graph.specs.WellFormed.{IsState}
 use Rattle.flow_graph.proofs.Numbers.{element-fits, stored-fits}
-use Rattle.ia32_rows.specs.Follows.{Follows}
+use Rattle.ia32_laws.specs.MovesLaws.{ShowsBehind}
+use Rattle.ia32_laws.proofs.Landing.{FollowsKept, followed, lands}
 use Rattle.ia32_rows.specs.Paths.{Comes}
 use Rattle.ia32_rows.specs.Placements.{Code, placement_of}
 use Rattle.ia32_rows.specs.Shows.{ElementsStand, IsArrayAt, Shows}
 use Rattle.ia32_rows.specs.Sites.{Anywhere, Framed, ReadyAt, Site, SoundAt}
 use Rattle.ia32_rows.proofs.Sound.{load-place, load-same, sound-at}
-use Rattle.ia32_rows.proofs.Steps.{point-passed}
 use Rattle.ia32_rows.specs.Rows.{put_row, store_to}
 use Rattle.ia32_rows.specs.Effects.{Keeps, OutsideWord}
 use Rattle.ia32_rows.specs.Contains.{IsPlaceIn}
@@ -53,9 +52,8 @@ use Rattle.ia32_rows.proofs.Straight.{leads-join, straight-goes}
 use Rattle.ia32_laws.specs.Supports.{IsSupported, site_of}
 use Rattle.ia32_laws.specs.KeepsLaws.{Arrives, IsSameRegister, KeepsOutside, moved_to}
 use Rattle.ia32_laws.proofs.KeepsApart.{object-at}
-use Rattle.ia32_laws.proofs.Memory.{address-at}
 use Rattle.ia32_laws.proofs.Ops.{at-before, given-number, has-number, op-is}
-use Rattle.ia32_laws.proofs.Puts.{at-own-address, following-in}
+use Rattle.ia32_laws.proofs.Elsewhere.{at-own-address, following-in}
 use Rattle.ia32_laws.proofs.Shown.{point-supported}
 use Rattle.ia32_laws.proofs.Stored.{element-shows}
 use Rattle.ia32_laws.proofs.Words.{low-byte, word-fits}
@@ -148,6 +146,24 @@ array-onward code (InFrame k depth) new g = chosen (depth == depth_of g)
         })
         _ (λ q. refl) (point_after code.program g.current.function g.block g.point)
 
+-- the array of a call or of the program changes neither the current function nor the point
+with-array-same : (array : ArrayName) (new : List ℤ) (h : graph.State)
+    → ((with_array array new h).current.function ≡ h.current.function) × ((with_array array new h).point ≡ h.point)
+with-array-same Null new h = (refl, refl)
+with-array-same Unknown new h = (refl, refl)
+with-array-same (Static k) new h = (refl, refl)
+with-array-same (InFrame k depth) new h = chosen (depth == depth_of h)
+  where
+    called : Bool → graph.State
+    called test = if test then record h { current = with_elements k new h.current }
+        else record h {
+          waiting = waiting_with k new (waiting_place h depth) (slice_get h.waiting (waiting_place h depth)) h.waiting;
+        }
+
+    chosen : (test : Bool) → ((called test).current.function ≡ h.current.function) × ((called test).point ≡ h.point)
+    chosen true = (refl, refl)
+    chosen false = (refl, refl)
+
 -- where the machine came to what stands behind the row of such a step, with the input and the output as before, it
 -- follows the step once the state behind is shown
 pub array-follows : (code : Code) (input : List ℕ) (g : graph.State) (s t : machine.State) (o : Op) (array : ArrayName)
@@ -159,36 +175,33 @@ pub array-follows : (code : Code) (input : List ℕ) (g : graph.State) (s t : ma
     → ReadyAt (site_of code g.current.function) rest t → IsNext code g rest → t.left ≡ s.left → t.taken ≡ s.taken
     → t.written ≡ s.written
     → ((q : ℕ) → Arrives code input g (moved_to g.block q g.left g.taken g.written g) t
-    → Shows code input (with_array array new (moved_to g.block q g.left g.taken g.written g)) t)
-    → Follows code input s g false (onward code.program (with_array array new g))
+    → ShowsBehind code input g.point (with_array array new (moved_to g.block q g.left g.taken g.written g)) t)
+    → FollowsKept code input s g false (onward code.program (with_array array new g))
 array-follows code input g s t o array new rest supported state shown has leads sound comes ready follows left taken
     written shows =
-    subst (Follows code input s g false) (sym (array-onward code array new g))
+    subst (FollowsKept code input s g false) (sym (array-onward code array new g))
     (follow (point_after code.program g.current.function g.block g.point) refl)
   where
     follow : (next : Option ℕ) → point_after code.program g.current.function g.block g.point ≡ next
-        → Follows code input s g false
+        → FollowsKept code input s g false
         (leads_to (λ q. with_array array new (moved_to g.block q g.left g.taken g.written g)) next)
     follow None e = tt
-    follow (Some q) e =
+    follow (Some q) e = λ kept.
         let site : Site = site_of code g.current.function in
         let more = follows q e in
-        let there : ReadyAt site (item.Point q ∷ more.0) t =
-        subst (λ (xs : List Item). ReadyAt site xs t) more.1 ready in
-        let point = point-passed site.symbols site.places site.text q more.0 t there in (
-          t,
-          comes,
-          shows q (record {
-            leads = ((g.block, state.placed), o, has, leads q (g.block, e));
-            placed = following-in g.point q (points_of (flow_at code.program g.current.function) g.block) e;
-            sound = sound;
-            eip = sym point.0 ∙ sym (address-at code.places g.current.function q);
-            left = left ∙ shown.left;
-            taken = taken ∙ shown.taken;
-            written = written ∙ shown.written;
-            of_input = left ∙ shown.of_input ∙ ap (λ (k : ℕ). drop k input) (sym taken);
-          }),
-        )
+        let same = with-array-same array new (moved_to g.block q g.left g.taken g.written g) in
+        lands code input g.point (with_array array new (moved_to g.block q g.left g.taken g.written g))
+        g.current.function q same.0 same.1 s t rest more.0 supported kept
+        ((g.block, state.placed), o, has, leads q (g.block, e)) comes ready more.1
+        (shows q (record {
+          leads = ((g.block, state.placed), o, has, leads q (g.block, e));
+          placed = following-in g.point q (points_of (flow_at code.program g.current.function) g.block) e;
+          sound = sound;
+          left = left ∙ shown.left;
+          taken = taken ∙ shown.taken;
+          written = written ∙ shown.written;
+          of_input = left ∙ shown.of_input ∙ ap (λ (k : ℕ). drop k input) (sym taken);
+        }))
 
 pub stored-follows : (code : Code) (input : List ℕ) (g : graph.State) (s u : machine.State) (o : Op) (array : ArrayName)
     (address width : ℕ) (elements : List ℤ) (i : ℕ) (z : ℤ) (after : ℕ) (rest : List Item) → IsSupported code
@@ -201,7 +214,7 @@ pub stored-follows : (code : Code) (input : List ℕ) (g : graph.State) (s u : m
     → load width (address + width * i) u ≡ Ok (cast_unsigned w32 z % 2 ^ (8 * width))
     → SoundAt (site_of code g.current.function) u → Comes code.text s (at_address after u)
     → ReadyAt (site_of code g.current.function) rest (at_address after u) → IsNext code g rest
-    → Follows code input s g false (onward code.program (with_array array (slice_set elements i z) g))
+    → FollowsKept code input s g false (onward code.program (with_array array (slice_set elements i z) g))
 stored-follows code input g s u o array address width elements i z after rest supported state shown has none leads is at
     within keeps held sound comes ready follows =
     array-follows code input g s t o array (slice_set elements i z) rest supported state shown has leads
@@ -269,17 +282,18 @@ element-high code f s width address i v sound low some held =
 
 pub put-follows : PutFollows
 put-follows bits k a code input g s supported state shown has r =
-    given-number (Follows code input s g false) (value_at g a) (puts_scalar code.program g bits k) tt (λ x number.
-    subst (λ (e : Option Elements). Follows code input s g false (given e (λ elements.
+    followed code input g s (op.Put bits k a) false supported state has (
+    given-number (FollowsKept code input s g false) (value_at g a) (puts_scalar code.program g bits k) tt (λ x number.
+    subst (λ (e : Option Elements). FollowsKept code input s g false (given e (λ elements.
     of_width bits elements (λ numbers. given (slice_get numbers 0)
     (λ old. onward code.program (with_array (Static k) (with_element numbers (pos 0) (stored bits x)) g))))))
     (sym (static-elements code g s k there))
-    (given-width (Follows code input s g false) bits (there.object.width, there.elements)
+    (given-width (FollowsKept code input s g false) bits (there.object.width, there.elements)
     (λ numbers. given (slice_get numbers 0)
     (λ old. onward code.program (with_array (Static k) (with_element numbers (pos 0) (stored bits x)) g))) tt (λ wide.
-    given-any (Follows code input s g false) (slice_get there.elements 0)
+    given-any (FollowsKept code input s g false) (slice_get there.elements 0)
     (λ old. onward code.program (with_array (Static k) (slice_set there.elements 0 (stored bits x)) g)) tt
-    (λ old e. follow x number old e wide))))
+    (λ old e. follow x number old e wide)))))
   where
     o : Op
     o = op.Put bits k a
@@ -303,7 +317,7 @@ put-follows bits k a code input g s supported state shown has r =
 
     follow : (x : ℤ) → value_at g a ≡ Some (Number x) → (old : ℤ) → slice_get there.elements 0 ≡ Some old
         → there.object.width ≡ bytes_of bits
-        → Follows code input s g false
+        → FollowsKept code input s g false
         (onward code.program (with_array (Static k) (slice_set there.elements 0 (stored bits x)) g))
     follow x number old e wide =
         let n : ℕ = bytes_of bits in

@@ -165,6 +165,7 @@ older-arrays code input g s u h state c kept i a at e f k elements has =
 entered-shows : (code : Code) (input : List ℕ) (g : graph.State) (s u : machine.State) → IsSupported code
     → IsState code.program g → (c : Called code input g s)
     → Begun (site_of code g.current.function) (frame_size code g.current)
+    (placement_of code g.current.function).zeroed
     (flow_at code.program g.current.function).arrays (placement_of code g.current.function).arrays g.point c.frame s u
     → Shows code input g u
 entered-shows code input g s u h state c b =

@@ -62,6 +62,7 @@ slot-apart frame size z d slot n high inside room long (inr h) = inl (omega arit
 pub fresh-stand : (code : Code) (input : List ℕ) (g : graph.State) (s u : machine.State) → (h : IsSupported code)
     → IsState code.program g → (c : Called code input g s) → frame_size code g.current ≤ c.frame
     → Begun (site_of code g.current.function) (frame_size code g.current)
+    (placement_of code g.current.function).zeroed
     (flow_at code.program g.current.function).arrays (placement_of code g.current.function).arrays g.point c.frame s u
     → AllStand code (active_of g) (c.frame ∷ c.older) u c.frame g.current
     ((placement_of code g.current.function).before g.point)
@@ -73,13 +74,13 @@ fresh-stand code input g s u h state c room b v value place e at =
     let here : slice_get (first_activation code.program f g.current.arguments).variables v ≡ Some value =
     ap (λ (a : Activation). slice_get a.variables v) (sym c.fresh) ∙ e in
     let is : Number (pos 0) ≡ value = mapped (flow_at code.program f).widths (Number (pos 0)) value v here in
-    let (slot, same) = supports.begins g.point v place c.begins at in
+    let z : ℕ = (placement_of code f).zeroed in
+    let (slot, same, deep) = supports.begins g.point v place c.begins at in
     let known = op-at code.program f g.point g.block h.program lt state.placed in
     let for : IsPlaceFor (flow_at code.program f) (placement_of code f) v (InSlot slot) =
     subst (IsPlaceFor (flow_at code.program f) (placement_of code f) v) same
     ((supports.points g.point known.op (g.block, state.placed) known.there).before v place at) in
     let inside = for.inside in
-    let low = inside.low in
     let high = inside.high in
     let apart : (n : ℕ) → n ≤ 4 → HeadersApart c.frame (flow_at code.program f).arrays (placement_of code f).arrays
     (c.frame - slot) n = λ n long k d array p q.
@@ -87,7 +88,7 @@ fresh-stand code input g s u h state c room b v value place e at =
     slot-apart c.frame size (size_of array) d slot n high there.high room long (for.apart k d array p q) in
     let zero : (n : ℕ) → n ≤ 4 → 0 < n → load n (c.frame - slot) u ≡ Ok 0 =
     λ n long some. b.zeros n (c.frame - slot) (above c.frame size slot high room)
-    (below c.frame size slot n low high room long) some (apart n long) in
+    (below c.frame size z slot n deep high room long) some (apart n long) in
     subst (λ (p : Place). StandsIn code (active_of g) (c.frame ∷ c.older) u c.frame
     (slice_get (flow_at code.program f).widths v) value p) (sym same)
     (subst (λ (z : Value). InSlotOf code (active_of g) (c.frame ∷ c.older) u (c.frame - slot)
@@ -99,8 +100,9 @@ fresh-stand code input g s u h state c room b v value place e at =
     above : (frame size slot : ℕ) → slot ≤ size → size ≤ frame → frame ≤ frame - slot + size
     above frame size slot h k = omega arith
 
-    below : (frame size slot n : ℕ) → 20 ≤ slot → slot ≤ size → size ≤ frame → n ≤ 4 → frame - slot + n + 12 ≤ frame
-    below frame size slot n l h k m = omega arith
+    below : (frame size z slot n : ℕ) → z + 4 ≤ slot → slot ≤ size → size ≤ frame → n ≤ 4
+        → frame - slot + n + z ≤ frame
+    below frame size z slot n l h k m = omega arith
 
 -- ---- arrays
 
@@ -124,21 +126,20 @@ elements-apart frame size arrays belows k d b n array inside room has placed low
           (inside.inside l o other e f).high room low high (inside.apart k l d o array other distinct has placed e f)
     ]
 
-fresh-elements : (frame size : ℕ) (arrays : List (ℕ × ℕ)) (belows : List ℕ) (k d address : ℕ) (array : ℕ × ℕ)
+fresh-elements : (frame size zeroed : ℕ) (arrays : List (ℕ × ℕ)) (belows : List ℕ) (k d address : ℕ) (array : ℕ × ℕ)
     (u : machine.State) → AreArraysIn arrays size belows → size ≤ frame → IsArray array
-    → slice_get arrays k ≡ Some array → slice_get belows k ≡ Some d → address + d ≡ frame
-    → load 4 (frame - (d + 4)) u ≡ Ok array.1
-    → ((n b : ℕ) → frame ≤ b + size → b + n + 12 ≤ frame → 0 < n → HeadersApart frame arrays belows b n
+    → slice_get arrays k ≡ Some array → slice_get belows k ≡ Some d → zeroed + size_of array ≤ d
+    → address + d ≡ frame → load 4 (frame - (d + 4)) u ≡ Ok array.1
+    → ((n b : ℕ) → frame ≤ b + size → b + n + zeroed ≤ frame → 0 < n → HeadersApart frame arrays belows b n
     → load n b u ≡ Ok 0)
     → ElementsStand u address array.0 (first_array array)
-fresh-elements frame size arrays belows k d address array u inside room is has placed at count zeros =
+fresh-elements frame size zeroed arrays belows k d address array u inside room is has placed deep at count zeros =
     let there = inside.inside k d array has placed in
-    let low = there.low in
     let high = there.high in
     zeros-stand u address array is
     (subst (λ (a : ℕ). load 4 a u ≡ Ok array.1) (header-at frame d address at) count)
     (λ n b from to some. zeros n b (above frame size d address b at high from)
-    (below frame d address b n (size_of array) at low to) some
+    (below frame d address b n (size_of array) at deep to) some
     (elements-apart frame size arrays belows k d b n array inside room has placed (first frame d address b at from)
     (last frame d address b n (size_of array) at to)))
   where
@@ -148,7 +149,8 @@ fresh-elements frame size arrays belows k d address array u inside room is has p
     above : (frame size d address b : ℕ) → address + d ≡ frame → d + 4 ≤ size → address ≤ b → frame ≤ b + size
     above frame size d address b h k l = omega arith
 
-    below : (frame d address b n z : ℕ) → address + d ≡ frame → 16 + z ≤ d → b + n ≤ address + z → b + n + 12 ≤ frame
+    below : (frame d address b n z : ℕ) → address + d ≡ frame → zeroed + z ≤ d → b + n ≤ address + z
+        → b + n + zeroed ≤ frame
     below frame d address b n z h k l = omega arith
 
     first : (frame d address b : ℕ) → address + d ≡ frame → address ≤ b → frame - d ≤ b
@@ -160,6 +162,7 @@ fresh-elements frame size arrays belows k d address array u inside room is has p
 pub fresh-arrays : (code : Code) (input : List ℕ) (g : graph.State) (s u : machine.State) → (h : IsSupported code)
     → IsState code.program g → (c : Called code input g s) → frame_size code g.current ≤ c.frame
     → Begun (site_of code g.current.function) (frame_size code g.current)
+    (placement_of code g.current.function).zeroed
     (flow_at code.program g.current.function).arrays (placement_of code g.current.function).arrays g.point c.frame s u
     → FrameArraysStand code u c.frame g.current
 fresh-arrays code input g s u h state c room b k elements e =
@@ -183,7 +186,8 @@ fresh-arrays code input g s u h state c room b k elements e =
       placed,
       at,
       subst (λ (zs : List ℤ). ElementsStand u (c.frame - d) array.0 zs) same
-          (fresh-elements c.frame size arrays belows k d (c.frame - d) array u inside room fits has placed at
+          (fresh-elements c.frame size (placement_of code f).zeroed arrays belows k d (c.frame - d) array u inside room
+          fits has placed ((h.supports f lt).cleared k d array has placed) at
           (b.counts k d array has placed) b.zeros),
     )
   where

@@ -1,6 +1,6 @@
 -- What is protected has no byte in common with the places of the current call's variables, nor with the stack below.
 use Rattle.std.proofs.Common.{◌≡◌, ◌⊎◌, ℕ, zero, suc, ◌+◌, ◌-◌, ◌*◌, ◌/◌, ◌<◌, ◌≤◌, ℤ, List, length, Some, inl}
-use Rattle.std.proofs.Common.{inr, refl, sym, ap, subst, ◌∙◌, arith}
+use Rattle.std.proofs.Common.{Option, inr, refl, sym, ap, subst, ◌∙◌, arith}
 use Rattle.std.specs.Prelude.{slice_get, option_map}
 use Rattle.std.proofs.Math.Nat.{mul-suc}
 use Rattle.std.proofs.lemmas.Nat.{mul-le}
@@ -17,11 +17,11 @@ use Rattle.flow_graph.specs.States.{Activation, active_of, flow_at}
 use Rattle.flow_graph.specs.WellFormed.{AreElementsIn, AreElementsOf, IsState}
 use Rattle.flow_graph.proofs.Lists.{zip-at}
 use Rattle.ia32_rows.specs.Placements.{Code, objects_of, placement_of}
-use Rattle.ia32_rows.specs.Shows.{Shows}
+use Rattle.ia32_rows.specs.Shows.{ShowsIn}
 use Rattle.ia32_rows.specs.Contains.{ApartFromPlace}
 use Rattle.ia32_laws.specs.Supports.{IsArrayIn, IsPlaceFor, IsSlotApart, IsSupported, size_of}
 use Rattle.ia32_laws.specs.Protected.{ElementReads, FrameArrayReads, IsProtected, ObjectReads}
-use Rattle.ia32_laws.specs.KeepsLaws.{ProtectedIsApart, PushedIsApart, data_end}
+use Rattle.ia32_laws.specs.KeepsLaws.{IsApart, ProtectedIsApart, PushedIsApart, data_end}
 use Rattle.ia32_laws.proofs.Objects.{depth-in, object-in}
 use Rattle.ia32_laws.proofs.Zones.{Bounds, IsCallAt, IsReadOf, IsSlotOf, activation-at, argument-read-of, bounds}
 use Rattle.ia32_laws.proofs.Zones.{calls-above}
@@ -143,8 +143,9 @@ frame-array code g frames i a frame k below address array elements supported sta
     }
 
 -- a call's frame is above its bytes
-pub frame-room : (code : Code) (input : List ℕ) (g : graph.State) (s : machine.State) (i : ℕ) (a : Activation)
-    (frame : ℕ) → IsSupported code → IsState code.program g → (shown : Shows code input g s)
+pub frame-room : {places : ℕ → Option Place} {eip : ℕ}
+    (code : Code) (input : List ℕ) (g : graph.State) (s : machine.State) (i : ℕ) (a : Activation)
+    (frame : ℕ) → IsSupported code → IsState code.program g → (shown : ShowsIn code input places eip g s)
     → IsCallAt g shown.frames i a frame → frame_size code a ≤ frame
 frame-room code input g s zero a frame supported state shown at =
     let (same, ebp) = youngest-is code input g s a frame shown at in
@@ -181,8 +182,9 @@ abbrev pub IsSomewhere : Code → graph.State → ℕ → ℕ → ℕ → Type 0
 IsSomewhere code g base a n = (a + n ≤ data_end code) ⊎ (base ≤ a + 4) ⊎ IsOwnArray code g base a n
 
 -- the current call's zone ends below those of others
-pub above-current : (code : Code) (input : List ℕ) (g : graph.State) (s : machine.State) (i : ℕ) (a : Activation)
-    (frame : ℕ) → (shown : Shows code input g s) → 0 < i → IsCallAt g shown.frames i a frame
+pub above-current : {places : ℕ → Option Place} {eip : ℕ}
+    (code : Code) (input : List ℕ) (g : graph.State) (s : machine.State) (i : ℕ) (a : Activation)
+    (frame : ℕ) → (shown : ShowsIn code input places eip g s) → 0 < i → IsCallAt g shown.frames i a frame
     → word_of Ebp s + 8 + frame_size code a ≤ frame
 above-current code input g s i a frame shown some at =
     let first : IsCallAt g shown.frames 0 g.current (word_of Ebp s) =
@@ -194,8 +196,9 @@ above-current code input g s i a frame shown some at =
     less e n m f h = omega arith
 
 -- what is read of calls is at the current frame or above
-call-read-above : (code : Code) (input : List ℕ) (g : graph.State) (s : machine.State) (a n : ℕ)
-    → (shown : Shows code input g s) → IsReadOf code g shown.frames a n → word_of Ebp s ≤ a + 4
+call-read-above : {places : ℕ → Option Place} {eip : ℕ}
+    (code : Code) (input : List ℕ) (g : graph.State) (s : machine.State) (a n : ℕ)
+    → (shown : ShowsIn code input places eip g s) → IsReadOf code g shown.frames a n → word_of Ebp s ≤ a + 4
 call-read-above code input g s a n shown h = by h.call h.is h.part
   where
     by : (i : ℕ) → IsCallAt g shown.frames i h.activation h.frame
@@ -219,8 +222,10 @@ call-read-above code input g s a n shown h = by h.call h.is h.part
         less e m f k a h b c = omega arith
 
 -- what is read of arrays of calls is one of the current call, or above it
-array-read-somewhere : (code : Code) (input : List ℕ) (g : graph.State) (s : machine.State) (a n : ℕ) → IsSupported code
-    → IsState code.program g → (shown : Shows code input g s) → FrameArrayReads code (active_of g) shown.frames a n
+array-read-somewhere : {places : ℕ → Option Place} {eip : ℕ}
+    (code : Code) (input : List ℕ) (g : graph.State) (s : machine.State) (a n : ℕ) → IsSupported code
+    → IsState code.program g → (shown : ShowsIn code input places eip g s)
+    → FrameArrayReads code (active_of g) shown.frames a n
     → IsSomewhere code g (word_of Ebp s) a n
 array-read-somewhere code input g s a n supported state shown h =
     by h.call (record { is_active = h.is_active; at_frame = h.at_frame })
@@ -271,8 +276,9 @@ array-read-somewhere code input g s a n supported state shown h =
             less e m f b a h k l = omega arith
 
 -- so is all that is protected
-pub protected-somewhere : (code : Code) (input : List ℕ) (g : graph.State) (s : machine.State) (a n : ℕ)
-    → IsSupported code → IsState code.program g → (shown : Shows code input g s)
+pub protected-somewhere : {places : ℕ → Option Place} {eip : ℕ}
+    (code : Code) (input : List ℕ) (g : graph.State) (s : machine.State) (a n : ℕ)
+    → IsSupported code → IsState code.program g → (shown : ShowsIn code input places eip g s)
     → IsProtected code g shown.frames a n → IsSomewhere code g (word_of Ebp s) a n
 protected-somewhere code input g s a n supported state shown (inl (inl h)) =
     inl (counted (data_start code.text) code.symbols.depth a n (length (data_bytes (objects_of code.program)))
@@ -291,14 +297,18 @@ protected-somewhere code input g s a n supported state shown (inr (inr h)) =
 
 -- ---- the law
 
-pub protected-is-apart : ProtectedIsApart
-protected-is-apart code input g s a n supported state shown reads =
+-- wherever variables stand
+pub is-apart : {places : ℕ → Option Place} {eip : ℕ} (code : Code) (input : List ℕ) (g : graph.State)
+    (s : machine.State) (a n : ℕ) → IsSupported code → IsState code.program g
+    → (shown : ShowsIn code input places eip g s) → IsProtected code g shown.frames a n → IsApart code g s a n
+is-apart code input g s a n supported state shown reads =
     let somewhere = protected-somewhere code input g s a n supported state shown reads in
     let b = bounds code input g s supported state shown in
     let four = (supported.supports g.current.function state.active.0.function).four_words in
     record {
       above = stacked b four somewhere;
       places = λ v place for. placed b four place for somewhere;
+      scratch = beside b four somewhere;
     }
   where
     E : ℕ
@@ -319,23 +329,27 @@ protected-is-apart code input g s a n supported state shown reads =
         less : (x m e k a : ℕ) → x + m ≡ e → k + 4 ≤ m → e ≤ a + k + 4 → x ≤ a
         less x m e k a h f l = omega arith
 
-    placed : Bounds code g s → 16 ≤ frame → {v : ℕ} → (place : Place)
-        → IsPlaceFor (flow_at code.program g.current.function) (placement_of code g.current.function) v place
-        → IsSomewhere code g E a n → ApartFromPlace E place a n
-    placed b four (InWord r) for h = tt
-    placed b four (InByte r) for (inl h) = inr (less (data_end code) (word_of Esp s) frame E a n b.room b.esp four h)
+    -- the word of scratch
+    beside : Bounds code g s → 16 ≤ frame → IsSomewhere code g E a n → AreDisjoint (E - 16) 4 a n
+    beside b four (inl h) = inr (less (data_end code) (word_of Esp s) frame E a n b.room b.esp four h)
       where
         less : (d x m e a n : ℕ) → d + 0x1000 ≤ x → x + m ≡ e → 16 ≤ m → a + n ≤ d → a + n ≤ e - 16
         less d x m e a n r h f l = omega arith
-    placed b four (InByte r) for (inr (inl h)) = inl (less (word_of Esp s) frame E a b.esp four h)
+    beside b four (inr (inl h)) = inl (less (word_of Esp s) frame E a b.esp four h)
       where
         less : (x m e a : ℕ) → x + m ≡ e → 16 ≤ m → e ≤ a + 4 → e - 16 + 4 ≤ a
         less x m e a h f l = omega arith
-    placed b four (InByte r) for (inr (inr h)) =
+    beside b four (inr (inr h)) =
         inr (less (word_of Esp s) frame E h.below (size_of h.array) a n b.esp four h.inside.low h.inside.high h.high)
       where
         less : (x m e k z a n : ℕ) → x + m ≡ e → 16 ≤ m → 16 + z ≤ k → k + 4 ≤ m → a + n + k ≤ e + z → a + n ≤ e - 16
         less x m e k z a n h f i j l = omega arith
+
+    placed : Bounds code g s → 16 ≤ frame → {v : ℕ} → (place : Place)
+        → IsPlaceFor (flow_at code.program g.current.function) (placement_of code g.current.function) v place
+        → IsSomewhere code g E a n → ApartFromPlace E place a n
+    placed b four (InWord r) for h = tt
+    placed b four (InByte r) for h = beside b four h
     placed b four (InSlot slot) for (inl h) =
         inr (less (data_end code) (word_of Esp s) frame E slot a n b.room b.esp for.inside.high h)
       where
@@ -347,7 +361,7 @@ protected-is-apart code input g s a n supported state shown reads =
         less : (x m e k a : ℕ) → x + m ≡ e → 20 ≤ k → k ≤ m → e ≤ a + 4 → e - k + 4 ≤ a
         less x m e k a h f i l = omega arith
     placed b four (InSlot slot) for (inr (inr h)) =
-        beside (for.apart h.number h.below h.array h.declared h.placed)
+        clear (for.apart h.number h.below h.array h.declared h.placed)
       where
         before : (x m e k b z a n : ℕ) → x + m ≡ e → k ≤ m → b + 8 ≤ k → e ≤ a + b + 4 → e - k + 4 ≤ a
         before x m e k b z a n h f i l = omega arith
@@ -355,11 +369,15 @@ protected-is-apart code input g s a n supported state shown reads =
         behind : (x m e k b z a n : ℕ) → x + m ≡ e → k ≤ m → k + z ≤ b → a + n + b ≤ e + z → a + n ≤ e - k
         behind x m e k b z a n h f i l = omega arith
 
-        beside : IsSlotApart slot h.array h.below → ApartFromPlace E (InSlot slot) a n
-        beside (inl k) =
+        clear : IsSlotApart slot h.array h.below → ApartFromPlace E (InSlot slot) a n
+        clear (inl k) =
             inl (before (word_of Esp s) frame E slot h.below (size_of h.array) a n b.esp for.inside.high k h.low)
-        beside (inr k) =
+        clear (inr k) =
             inr (behind (word_of Esp s) frame E slot h.below (size_of h.array) a n b.esp for.inside.high k h.high)
+
+pub protected-is-apart : ProtectedIsApart
+protected-is-apart code input g s a n supported state shown reads =
+    is-apart code input g s a n supported state shown reads
 
 -- nor with what is pushed
 pub pushed-is-apart : PushedIsApart

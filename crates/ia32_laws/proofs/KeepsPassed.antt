@@ -41,7 +41,7 @@ use Rattle.ia32_rows.proofs.Kept.{other-cells, word-kept}
 use Rattle.ia32_rows.proofs.Straight.{straight-goes}
 use Rattle.ia32_laws.specs.Supports.{IsSupported, site_of}
 use Rattle.ia32_laws.proofs.Ops.{at-before, given-number, has-number, op-is}
-use Rattle.ia32_laws.proofs.Puts.{at-own-address}
+use Rattle.ia32_laws.proofs.Elsewhere.{at-own-address}
 use Rattle.ia32_laws.proofs.Words.{word-fits}
 use Rattle.ia32_laws.proofs.Zones.{shown-in-frame}
 use Rattle.ia32_laws.specs.CoresLaws.{Passes}

@@ -88,3 +88,8 @@ pub mod Putchar
 pub mod ByteStores
 pub mod Getchar
 pub mod Reading
+pub mod Elsewhere
+pub mod Landing
+pub mod Moving
+pub mod Small
+pub mod MovesWorked

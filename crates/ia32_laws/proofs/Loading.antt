@@ -30,7 +30,7 @@ use Rattle.flow_graph.specs.States as graph
 use Rattle.flow_graph.specs.States.{Elements, active_of, elements_of, elements_with, flow_at}
 use Rattle.flow_graph.proofs.Lists.{All-at}
 use Rattle.flow_graph.proofs.Numbers.{element-fits}
-use Rattle.ia32_rows.specs.Follows.{Follows}
+use Rattle.ia32_laws.proofs.Landing.{FollowsKept, followed}
 use Rattle.ia32_rows.specs.Placements.{Code, placement_of}
 use Rattle.ia32_rows.specs.Shows.{ElementsStand}
 use Rattle.ia32_rows.specs.Sites.{Framed, Site}
@@ -241,11 +241,13 @@ static-elements code g s k h =
 
 pub get-follows : GetFollows
 get-follows bits d k code input g s supported state shown has r =
-    subst (λ (e : Option Elements). Follows code input s g false (given e (λ elements. of_width bits elements step)))
+    followed code input g s (op.Get bits d k) false supported state has (
+    subst (λ (e : Option Elements).
+    FollowsKept code input s g false (given e (λ elements. of_width bits elements step)))
     (sym (static-elements code g s k there))
-    (given-width (Follows code input s g false) bits (there.object.width, there.elements) step tt (λ wide.
-    given-any (Follows code input s g false) (slice_get there.elements 0) (λ n. sets code.program g d (Number n)) tt
-    (λ n e. follow n e wide)))
+    (given-width (FollowsKept code input s g false) bits (there.object.width, there.elements) step tt (λ wide.
+    given-any (FollowsKept code input s g false) (slice_get there.elements 0) (λ n. sets code.program g d (Number n)) tt
+    (λ n e. follow n e wide))))
   where
     o : Op
     o = op.Get bits d k
@@ -266,7 +268,7 @@ get-follows bits d k code input g s supported state shown has r =
     step numbers = given (slice_get numbers 0) (λ n. sets code.program g d (Number n))
 
     follow : (n : ℤ) → slice_get there.elements 0 ≡ Some n → there.object.width ≡ bytes_of bits
-        → Follows code input s g false (sets code.program g d (Number n))
+        → FollowsKept code input s g false (sets code.program g d (Number n))
     follow n e wide =
         let here = point-supported code g o supported state has in
         let (place, at) = here.written d refl in

@@ -1,8 +1,6 @@
 -- A mark and a turn are a NOP, behind which the next point stands.
-use Rattle.std.proofs.Common.{◌≡◌, ℕ, true, List, [], ◌∷◌, Option, Some, None, refl, sym, subst, ◌∙◌}
+use Rattle.std.proofs.Common.{◌≡◌, ℕ, true, List, [], ◌∷◌, Option, Some, None, refl}
 use Rattle.ia32_insn.specs.declared.insn.Insn.TheVariants as insn
-use Rattle.ia32_insn.specs.declared.item.Item.{Item}
-use Rattle.ia32_insn.specs.declared.item.Item.TheVariants as item
 use Rattle.ia32_insn.specs.State as machine
 use Rattle.ia32_insn.specs.State.{at_address}
 use Rattle.ia32_insn.specs.Items.{plain}
@@ -14,20 +12,20 @@ use Rattle.flow_graph.specs.Meaning.{at_point, onward}
 use Rattle.flow_graph.specs.States as graph
 use Rattle.flow_graph.specs.States.{flow_at, op_at, point_after}
 use Rattle.flow_graph.specs.WellFormed.{IsState}
-use Rattle.ia32_rows.specs.Follows.{Follows}
+use Rattle.ia32_laws.proofs.Landing.{FollowsKept, followed, lands}
+use Rattle.ia32_laws.specs.KeepsLaws.{moved_to}
 use Rattle.ia32_rows.specs.Placements.{Code}
 use Rattle.ia32_rows.specs.Shows.{Shows}
-use Rattle.ia32_rows.specs.Sites.{ReadyAt, Site}
+use Rattle.ia32_rows.specs.Sites.{Site}
 use Rattle.ia32_rows.proofs.Sound.{sound-at}
-use Rattle.ia32_rows.proofs.Steps.{comes-not, nop-goes, point-passed}
+use Rattle.ia32_rows.proofs.Steps.{comes-not, nop-goes}
 use Rattle.ia32_laws.specs.Supports.{IsSupported, site_of}
 use Rattle.ia32_laws.specs.Protected.{KeepsShown}
 use Rattle.ia32_laws.specs.KeepsOps.{MarkFollows, RowAt, TurnFollows}
-use Rattle.ia32_laws.proofs.Memory.{address-at}
 use Rattle.ia32_laws.proofs.Chain.{same-place}
 use Rattle.ia32_laws.proofs.Shown.{moved-shows}
 use Rattle.ia32_laws.proofs.Zones.{shown-in-frame}
-use Rattle.ia32_laws.proofs.Puts.{following-in, keeps-at}
+use Rattle.ia32_laws.proofs.Elsewhere.{following-in, keeps-at}
 
 -- nothing changed
 pub keeps-all : (code : Code) (g : graph.State) (frames : List ℕ) (s : machine.State)
@@ -44,7 +42,7 @@ nop-follows : (code : Code) (input : List ℕ) (g : graph.State) (s : machine.St
     → IsState code.program g → Shows code input g s → op_at code.program g ≡ Some o → defined o ≡ None
     → ((next : ℕ) → IsBehind (flow_at code.program g.current.function) g.point next
     → LeadsTo (flow_at code.program g.current.function) g.point next o)
-    → RowAt code g (plain insn.Nop ∷ []) s → Follows code input s g true (onward code.program g)
+    → RowAt code g (plain insn.Nop ∷ []) s → FollowsKept code input s g true (onward code.program g)
 nop-follows code input g s o supported state shown has none leads r =
     follow (point_after code.program g.current.function g.block g.point) refl
   where
@@ -52,40 +50,37 @@ nop-follows code input g s o supported state shown has none leads r =
     site = site_of code g.current.function
 
     follow : (next : Option ℕ) → point_after code.program g.current.function g.block g.point ≡ next
-        → Follows code input s g true (at_point g.block g next)
+        → FollowsKept code input s g true (at_point g.block g next)
     follow None e = tt
-    follow (Some q) e =
+    follow (Some q) e = λ kept.
         let sound = (shown-in-frame code input g s supported state shown).framed.sound in
         let went = nop-goes site.symbols site.places site.text site.low site.high r.rest s sound r.ready in
         let t : machine.State = at_address went.0 s in
-        let more = r.follows q e in
-        let there : ReadyAt site (item.Point q ∷ more.0) t =
-        subst (λ (xs : List Item). ReadyAt site xs t) more.1 went.3 in
-        let point = point-passed site.symbols site.places site.text q more.0 t there in (
+        let more = r.follows q e in (
           t,
           went.1,
-          (
-            t,
-            comes-not site.text t,
-            moved-shows code input g s t o g.block q g.left g.taken g.written supported state shown has none
-                (keeps-at code g shown.frames None went.0 s s (keeps-all code g shown.frames s))
-                (record {
-                  leads = ((g.block, state.placed), o, has, leads q (g.block, e));
-                  placed = following-in g.point q (points_of (flow_at code.program g.current.function) g.block) e;
-                  sound = sound-at site.text site.low site.high went.0 s sound;
-                  eip = sym point.0 ∙ sym (address-at code.places g.current.function q);
-                  left = shown.left;
-                  taken = shown.taken;
-                  written = shown.written;
-                  of_input = shown.of_input;
-                }),
-          ),
+          lands code input g.point (moved_to g.block q g.left g.taken g.written g) g.current.function q refl refl t t
+              r.rest more.0 supported kept ((g.block, state.placed), o, has, leads q (g.block, e))
+              (comes-not site.text t) went.3 more.1
+              (moved-shows code input g s t o g.block q g.left g.taken g.written supported state shown has none
+              (keeps-at code g shown.frames None went.0 s s (keeps-all code g shown.frames s))
+              (record {
+                leads = ((g.block, state.placed), o, has, leads q (g.block, e));
+                placed = following-in g.point q (points_of (flow_at code.program g.current.function) g.block) e;
+                sound = sound-at site.text site.low site.high went.0 s sound;
+                left = shown.left;
+                taken = shown.taken;
+                written = shown.written;
+                of_input = shown.of_input;
+              })),
         )
 
 pub mark-follows : MarkFollows
 mark-follows statement code input g s supported state shown has r =
-    nop-follows code input g s (op.Mark statement) supported state shown has refl (λ next h. h) r
+    followed code input g s (op.Mark statement) true supported state has (
+    nop-follows code input g s (op.Mark statement) supported state shown has refl (λ next h. h) r)
 
 pub turn-follows : TurnFollows
 turn-follows code input g s supported state shown has r =
-    nop-follows code input g s op.Turn supported state shown has refl (λ next h. h) r
+    followed code input g s op.Turn true supported state has (
+    nop-follows code input g s op.Turn supported state shown has refl (λ next h. h) r)

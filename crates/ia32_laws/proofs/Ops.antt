@@ -26,7 +26,7 @@ use Rattle.flow_graph.specs.States as graph
 use Rattle.flow_graph.specs.States.{active_of, depth_of, fitted, flow_at, number_of, op_at, value_at}
 use Rattle.flow_graph.specs.WellFormed.{IsState}
 use Rattle.flow_graph.proofs.Values.{op-at}
-use Rattle.ia32_rows.specs.Follows.{Follows}
+use Rattle.ia32_laws.proofs.Landing.{FollowsKept, followed}
 use Rattle.ia32_rows.specs.Placements.{Code, placement_of}
 use Rattle.ia32_rows.specs.Shows.{Shows, StandsIn}
 use Rattle.ia32_rows.specs.Sites.{Framed, Site}
@@ -89,6 +89,7 @@ number-low code g frames None place n fits for = absurd for
 
 pub number-follows : NumberFollows
 number-follows d n code input g s supported state shown has r =
+    followed code input g s (op.Const d n) false supported state has (
     let here = point-supported code g (op.Const d n) supported state has in
     let (place, at) = here.written d refl in
     let for = here.after d place at in
@@ -100,7 +101,7 @@ number-follows d n code input g s supported state shown has r =
     (at-after code g s d place (λ p. number_row p n) at r) at
     (number-puts (site_of code g.current.function) (placement_of code g.current.function).frame place n s framed
     for.inside (word-fits n known.numbers))
-    (number-low code g shown.frames width place n known.numbers for.holds) tt
+    (number-low code g shown.frames width place n known.numbers for.holds) tt)
 
 -- ---- operands
 
@@ -178,13 +179,14 @@ operation-follows : (how : ℕ → ℕ → ℕ) (Row : Place → Place → Place
     → HasWidth (flow_at code.program g.current.function) b Two → IsSupported code → IsState code.program g
     → Shows code input g s → op_at code.program g ≡ Some o
     → RowAt code g (Row (after_at code g d) (before_at code g a) (before_at code g b)) s
-    → Follows code input s g false (given (number_of (value_at g a))
+    → FollowsKept code input s g false (given (number_of (value_at g a))
     (λ x. given (number_of (value_at g b)) (λ y. sets code.program g d (Number (f x y)))))
 operation-follows how Row f o d a b code input g s puts computed sets_d reads_a reads_b leads wd wa wb supported state
     shown has r =
-    given-number (Follows code input s g false) (value_at g a)
+    given-number (FollowsKept code input s g false) (value_at g a)
     (λ x. given (number_of (value_at g b)) (λ y. sets code.program g d (Number (f x y)))) tt (λ x e.
-    given-number (Follows code input s g false) (value_at g b) (λ y. sets code.program g d (Number (f x y))) tt (λ y k.
+    given-number (FollowsKept code input s g false) (value_at g b) (λ y. sets code.program g d (Number (f x y))) tt
+    (λ y k.
     let here = point-supported code g o supported state has in
     let (place, at) = here.written d sets_d in
     let for = here.after d place at in
@@ -215,45 +217,51 @@ commuting-result how writes same site frame p q r x y s framed room to a a_place
 
 pub sum-follows : SumFollows
 sum-follows d a b code input g s supported state shown has r =
+    followed code input g s (op.Add d a b) false supported state has (
     let fits = (op-is code g (op.Add d a b) supported state has).fits in
     operation-follows (alu_value alu.Add) (commuting alu.Add) _ (op.Add d a b) d a b code input g s
     (commuting-result alu.Add tt (λ x y. omega arith)) sum-computed refl (inl refl) (inr (inl refl)) (λ next h. h)
-    fits.0 fits.1.0 fits.1.1.0 supported state shown has r
+    fits.0 fits.1.0 fits.1.1.0 supported state shown has r)
 
 pub difference-follows : DifferenceFollows
 difference-follows d a b code input g s supported state shown has r =
+    followed code input g s (op.Sub d a b) false supported state has (
     let fits = (op-is code g (op.Sub d a b) supported state has).fits in
     operation-follows (alu_value alu.Sub) (operation alu.Sub) _ (op.Sub d a b) d a b code input g s
     (λ site frame p q v x y t framed room to f f_placed h h_placed one two small also all.
     operation-puts site frame alu.Sub p q v x y t framed room tt to f f_placed h h_placed one two small also all)
     difference-computed refl (inl refl) (inr (inl refl)) (λ next h. h) fits.0 fits.1.0 fits.1.1.0 supported state shown
-    has r
+    has r)
 
 pub and-follows : AndFollows
 and-follows d a b code input g s supported state shown has r =
+    followed code input g s (op.And d a b) false supported state has (
     let fits = (op-is code g (op.And d a b) supported state has).fits in
     operation-follows (alu_value alu.And) (commuting alu.And) _ (op.And d a b) d a b code input g s
     (commuting-result alu.And tt (λ x y. and_comm y x)) and-computed refl (inl refl) (inr (inl refl)) (λ next h. h)
-    fits.0 fits.1.0 fits.1.1.0 supported state shown has r
+    fits.0 fits.1.0 fits.1.1.0 supported state shown has r)
 
 pub or-follows : OrFollows
 or-follows d a b code input g s supported state shown has r =
+    followed code input g s (op.Or d a b) false supported state has (
     let fits = (op-is code g (op.Or d a b) supported state has).fits in
     operation-follows (alu_value alu.Or) (commuting alu.Or) _ (op.Or d a b) d a b code input g s
     (commuting-result alu.Or tt (λ x y. or_comm y x)) or-computed refl (inl refl) (inr (inl refl)) (λ next h. h)
-    fits.0 fits.1.0 fits.1.1.0 supported state shown has r
+    fits.0 fits.1.0 fits.1.1.0 supported state shown has r)
 
 pub xor-follows : XorFollows
 xor-follows d a b code input g s supported state shown has r =
+    followed code input g s (op.Xor d a b) false supported state has (
     let fits = (op-is code g (op.Xor d a b) supported state has).fits in
     operation-follows (alu_value alu.Xor) (commuting alu.Xor) _ (op.Xor d a b) d a b code input g s
     (commuting-result alu.Xor tt (λ x y. xor_comm y x)) xor-computed refl (inl refl) (inr (inl refl)) (λ next h. h)
-    fits.0 fits.1.0 fits.1.1.0 supported state shown has r
+    fits.0 fits.1.0 fits.1.1.0 supported state shown has r)
 
 pub product-follows : ProductFollows
 product-follows d a b code input g s supported state shown has r =
+    followed code input g s (op.Mul d a b) false supported state has (
     let fits = (op-is code g (op.Mul d a b) supported state has).fits in
     operation-follows product multiplying _ (op.Mul d a b) d a b code input g s
     (λ site frame p q v x y t framed room to f f_placed h h_placed one two small also all.
     product-puts site frame p q v x y t framed room to f f_placed h h_placed one two small) product-computed refl
-    (inl refl) (inr (inl refl)) (λ next h. h) fits.0 fits.1.0 fits.1.1.0 supported state shown has r
+    (inl refl) (inr (inl refl)) (λ next h. h) fits.0 fits.1.0 fits.1.1.0 supported state shown has r)

@@ -7,18 +7,18 @@ use Rattle.ia32_insn.specs.Meaning.{word_of}
 use Rattle.flow_graph.specs.States as graph
 use Rattle.flow_graph.specs.States.{depth_of, flow_at, waiting_place, waiting_with, with_elements}
 use Rattle.ia32_rows.specs.Placements.{placement_of}
-use Rattle.ia32_rows.specs.Shows.{Shows}
 use Rattle.ia32_laws.specs.Supports.{IsArrayIn, size_of}
 use Rattle.ia32_laws.specs.KeepsLaws.{OwnArrayShows, moved_to}
 use Rattle.ia32_laws.proofs.KeepsApart.{frame-room}
 use Rattle.ia32_laws.proofs.Changed.{current-at, current-shows}
+use Rattle.ia32_laws.specs.MovesLaws.{ShowsBehind}
 use Rattle.ia32_laws.proofs.Regions.{IsArrayOf}
 
 pub own-array-shows : OwnArrayShows
 own-array-shows code input g s t o k distance array elements new block point left taken written supported state shown
     has
     none there declared placed keeps stand arrives =
-    subst (λ (test : Bool). Shows code input
+    subst (λ (test : Bool). ShowsBehind code input g.point
     (if test then record m { current = with_elements k new m.current }
     else record m {
       waiting = waiting_with k new (waiting_place m (depth_of g)) (slice_get m.waiting (waiting_place m (depth_of g)))

@@ -15,7 +15,7 @@ use Rattle.ia32_insn.specs.Meaning.{address_of, and_then, load, with_word, word_
 use Rattle.flow_graph.specs.declared.op.Op.TheVariants as op
 use Rattle.flow_graph.specs.Meaning.{Moved, Stuck, given, sets}
 use Rattle.flow_graph.specs.States.{active_of, depth_of}
-use Rattle.ia32_rows.specs.Follows.{Follows}
+use Rattle.ia32_laws.proofs.Landing.{FollowsKept, followed}
 use Rattle.ia32_rows.specs.Placements.{placement_of}
 use Rattle.ia32_rows.specs.Shows.{IsOldArray}
 use Rattle.ia32_rows.specs.Sites.{Framed, Site}
@@ -27,7 +27,7 @@ use Rattle.ia32_rows.specs.Laws.{Puts}
 use Rattle.ia32_rows.proofs.Kept.{other-cells}
 use Rattle.ia32_rows.proofs.Moves.{gives-word}
 use Rattle.ia32_laws.specs.Supports.{site_of}
-use Rattle.ia32_laws.proofs.Copies.{word-small}
+use Rattle.ia32_laws.proofs.Small.{word-small}
 use Rattle.ia32_laws.proofs.Ops.{at-after, op-is}
 use Rattle.ia32_laws.proofs.Puts.{IsLow, puts-follow}
 use Rattle.ia32_laws.proofs.Shown.{point-supported}
@@ -97,7 +97,8 @@ given-value P (Some v) go none some = some v refl
 
 pub param-follows : ParamFollows
 param-follows d k code input g s supported state shown has r =
-    given-value (Follows code input s g false) (slice_get g.current.arguments k) (sets code.program g d) tt (λ v e.
+    followed code input g s (op.Param d k) false supported state has (
+    given-value (FollowsKept code input s g false) (slice_get g.current.arguments k) (sets code.program g d) tt (λ v e.
     let here = point-supported code g (op.Param d k) supported state has in
     let (place, at) = here.written d refl in
     let for = here.after d place at in
@@ -114,4 +115,4 @@ param-follows d k code input g s supported state shown has r =
     (λ next h. h) (at-after code g s d place (λ p. param_row p k) at r) at
     (param-puts (site_of code g.current.function) (placement_of code g.current.function).frame place k held.0 s framed
     four for.inside held.1 small)
-    (subst (λ (x : Option Width). IsLow code (active_of g) shown.frames x v held.0) (sym wide) held.2) old)
+    (subst (λ (x : Option Width). IsLow code (active_of g) shown.frames x v held.0) (sym wide) held.2) old))

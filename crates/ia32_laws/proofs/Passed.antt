@@ -24,7 +24,7 @@ use Rattle.ia32_rows.specs.Shows.{IsWord, Shows, StandsIn}
 use Rattle.ia32_rows.specs.Contains.{Contains, HoldsWord, IsPlaceIn}
 use Rattle.ia32_laws.specs.KeepsOps.{before_at}
 use Rattle.ia32_laws.specs.Supports.{HoldsWidth, IsSupported}
-use Rattle.ia32_laws.proofs.Copies.{word-small}
+use Rattle.ia32_laws.proofs.Small.{word-small}
 use Rattle.ia32_laws.proofs.Shown.{point-supported}
 use Rattle.ia32_laws.specs.ActivationsLaws.{AreHeld}
 

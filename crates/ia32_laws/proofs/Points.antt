@@ -13,7 +13,7 @@ use Rattle.flow_graph.specs.States.{flow_at, op_of}
 use Rattle.ia32_rows.specs.Paths.{IsAt}
 use Rattle.ia32_rows.specs.Placements.{Code, Placement, placement_of, point_address}
 use Rattle.ia32_rows.specs.Sites.{Site, StandsFrom}
-use Rattle.ia32_rows.specs.Rows.{block_rows, entry_label, headers, prologue, row, selected}
+use Rattle.ia32_rows.specs.Rows.{block_rows, entry_label, headers, moves_to, prologue, row, selected}
 use Rattle.ia32_rows.proofs.Laid.{StandsThere, back-there, behind-there, point-there, row-in-graph}
 use Rattle.ia32_laws.specs.Supports.{site_of}
 use Rattle.ia32_laws.proofs.Memory.{address-at}
@@ -67,7 +67,8 @@ pub record PointThere (code : Code) (f p : ℕ) (o : Op) (next : Option ℕ) : T
       ≡ front ++ (item.Point p ∷ row (flow_at code.program f) (placement_of code f) p o ++ rest)
   pub stands : StandsFrom (site_of code f)
       (item.Point p ∷ row (flow_at code.program f) (placement_of code f) p o ++ rest) (point_address code f p)
-  pub follows : (q : ℕ) → next ≡ Some q → (more : List Item) × (rest ≡ item.Point q ∷ more)
+  pub follows : (q : ℕ) → next ≡ Some q
+      → (more : List Item) × (rest ≡ moves_to (placement_of code f) p (Some q) ++ item.Point q ∷ more)
 
 pub point-is-there : (code : Code) (f block p : ℕ) (o : Op) → IsSelected code → f < length code.program.functions
     → Stands (flow_at code.program f) p block → op_of code.program f p ≡ Some o
@@ -147,7 +148,7 @@ entries-stand code f address q h below named first =
     let site : Site = site_of code f in
     let l = laid code f h below in
     let b = begins flow placement flow.blocks q first in
-    let front : List Item = prologue placement.frame (entry_label flow) in
+    let front : List Item = prologue placement.frame placement.zeroed (entry_label flow) in
     let numbers : List Item = headers flow.arrays placement.arrays in
     let same : l.address ≡ address = same_Some l.address address (sym l.named ∙ named) in
     record {

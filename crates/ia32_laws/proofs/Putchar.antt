@@ -18,7 +18,7 @@ use Rattle.flow_graph.specs.declared.op.Op.TheVariants as op
 use Rattle.flow_graph.specs.Meaning.{low_byte, puts}
 use Rattle.flow_graph.specs.States.{value_at}
 use Rattle.flow_graph.proofs.Numbers.{byte-fits}
-use Rattle.ia32_rows.specs.Follows.{Follows}
+use Rattle.ia32_laws.proofs.Landing.{FollowsKept, followed}
 use Rattle.ia32_rows.specs.Paths.{Comes}
 use Rattle.ia32_rows.specs.Placements.{placement_of}
 use Rattle.ia32_rows.specs.Sites.{Framed, ReadyAt, Site, StandsFrom}
@@ -33,7 +33,7 @@ use Rattle.ia32_rows.proofs.Straight.{straight-goes}
 use Rattle.ia32_laws.specs.Supports.{site_of}
 use Rattle.ia32_laws.specs.KeepsOps.{before_at}
 use Rattle.ia32_laws.proofs.Ops.{at-after, at-before, given-number, has-number, op-is}
-use Rattle.ia32_laws.proofs.Puts.{at-own-address}
+use Rattle.ia32_laws.proofs.Elsewhere.{at-own-address}
 use Rattle.ia32_laws.proofs.Shown.{point-supported}
 use Rattle.ia32_laws.proofs.Words.{word-fits}
 use Rattle.ia32_laws.proofs.Zones.{shown-in-frame}
@@ -104,7 +104,8 @@ putchar-back site frame from to x rest s framed holds inside contains fits own l
 
 pub putchar-follows : PutcharFollows
 putchar-follows d a code input g s supported state shown has r =
-    given-number (Follows code input s g false) (value_at g a) (puts code.program g d) tt (λ x e.
+    followed code input g s (op.Putchar d a) false supported state has (
+    given-number (FollowsKept code input s g false) (value_at g a) (puts code.program g d) tt (λ x e.
     let o = op.Putchar d a in
     let fits = (op-is code g o supported state has).fits in
     let here = point-supported code g o supported state has in
@@ -136,4 +137,4 @@ putchar-follows d a code input g s supported state shown has r =
       taken_is = b.taken_is ∙ shown.taken;
       written_is = b.written_is ∙ ap (λ (l : List ℕ). l ++ y ∷ []) shown.written;
     }) row.follows (byte-fits y small, refl) tt
-    (sym shown.left ∙ shown.of_input ∙ ap (λ (k : ℕ). drop k input) shown.taken))
+    (sym shown.left ∙ shown.of_input ∙ ap (λ (k : ℕ). drop k input) shown.taken)))

@@ -1,59 +1,45 @@
 -- A row that puts a word into a place leads to a state that shows the next.
-use Rattle.std.proofs.Common.{◌≡◌, ◌⊎◌, ℕ, ◌+◌, ◌-◌, ◌*◌, ◌%◌, ◌^◌, ◌<◌, ◌≤◌, false, List, [], ◌∷◌, ◌++◌}
-use Rattle.std.proofs.Common.{length, Option, Some, None, Ok, inl, inr, refl, sym, ap, subst, ◌∙◌, arith}
-use Rattle.std.proofs.Common.{length-append}
+use Rattle.std.proofs.Common.{◌≡◌, ◌⊎◌, ℕ, ◌+◌, ◌-◌, ◌*◌, ◌%◌, false, List, ◌++◌}
+use Rattle.std.proofs.Common.{Option, Some, None, Ok, inl, inr, refl, sym, ap, subst, ◌∙◌, arith}
 use Rattle.std.specs.Prelude.{drop, slice_get}
-use Rattle.std.proofs.Math.Nat.{mod-eq_of_lt}
-use Rattle.std.proofs.lemmas.Option.{none-some, same_Some}
+use Rattle.std.proofs.lemmas.Option.{same_Some}
 use Rattle.pcc_base.specs.Outcome.{Value}
 use Rattle.pcc_base.specs.declared.run.Width.{Width}
 use Rattle.pcc_base.specs.declared.run.Width.TheVariants.{One, Two}
 use Rattle.ia32_insn.specs.declared.register_names.Reg32.TheVariants.{Esp, Ebp}
 use Rattle.ia32_insn.specs.Places.{Place, InWord, InByte, InSlot}
 use Rattle.ia32_insn.specs.declared.item.Item.{Item}
-use Rattle.ia32_insn.specs.declared.item.Item.TheVariants as item
 use Rattle.ia32_insn.specs.State as machine
 use Rattle.ia32_insn.specs.State.{at_address}
 use Rattle.ia32_insn.specs.Meaning.{load, word_of}
-use Rattle.ia32_insn.specs.Items.{data_memory, data_start, text_start}
 use Rattle.flow_graph.specs.declared.op.Op.{Op}
-use Rattle.flow_graph.specs.Graphs.{IsIn, following, points_of}
+use Rattle.flow_graph.specs.Graphs.{points_of}
 use Rattle.flow_graph.specs.Liveness.{IsBehind, LeadsTo, defined}
 use Rattle.flow_graph.specs.Meaning.{at_point, sets}
 use Rattle.flow_graph.specs.States as graph
 use Rattle.flow_graph.specs.States.{Activation, active_of, depth_of, flow_at, op_at, point_after, with_value}
 use Rattle.flow_graph.specs.WellFormed.{IsState}
-use Rattle.flow_graph.proofs.Points.{choose}
-use Rattle.ia32_rows.specs.Follows.{Follows}
+use Rattle.ia32_laws.proofs.Elsewhere.{at-own-address, following-in, keeps-at, stack-untouched, stands-at}
+use Rattle.ia32_laws.specs.KeepsLaws.{moved_to}
+use Rattle.ia32_laws.proofs.Landing.{FollowsKept, lands}
 use Rattle.ia32_rows.specs.Paths.{Comes}
-use Rattle.ia32_rows.specs.Placements.{Code, objects_of, placement_of}
+use Rattle.ia32_rows.specs.Placements.{Code, placement_of}
 use Rattle.ia32_rows.specs.Shows.{IsByte, IsOldArray, IsWord, Shows, StandsIn}
 use Rattle.ia32_rows.specs.Sites.{Framed, ReadyAt, Site}
-use Rattle.ia32_rows.proofs.Sound.{load-same, sound-at}
-use Rattle.ia32_rows.proofs.Steps.{point-passed}
+use Rattle.ia32_rows.proofs.Sound.{sound-at}
 use Rattle.ia32_rows.specs.Contains.{ApartFromPlace, IsPlaceIn, Untouched}
 use Rattle.ia32_rows.specs.Laws.{ArePlacesApart, HoldsLow, Puts}
 use Rattle.ia32_rows.proofs.Kept.{word-kept}
-use Rattle.ia32_rows.proofs.Moves.{byte-below, general-below}
 use Rattle.ia32_rows.proofs.Straight.{straight-goes}
 use Rattle.ia32_rows.proofs.Sums.{others-kept}
 use Rattle.ia32_laws.specs.Supports.{HoldsWidth, IsPlaceFor, IsSupported, site_of}
 use Rattle.ia32_laws.specs.Protected.{IsSame, KeepsShown}
 use Rattle.ia32_laws.specs.KeepsOps.{RowAt}
-use Rattle.ia32_laws.proofs.Memory.{address-at, text-above}
 use Rattle.ia32_laws.proofs.Shown.{point-supported, set-shows}
 use Rattle.ia32_laws.proofs.Zones.{shown-in-frame}
 use Rattle.ia32_laws.proofs.KeepsApart.{protected-is-apart}
 
 -- ---- what a row keeps
-
--- ESP and EBP are in no place
-stack-untouched : (frame k : ℕ) (p : Place) → IsPlaceIn frame p → 16 ≤ k → k < 24 → Untouched p k
-stack-untouched frame k (InWord r) placed low high =
-    let b = general-below r placed in (inr (omega arith), inl (omega arith), inl (omega arith))
-stack-untouched frame k (InByte r) placed low high =
-    let b = byte-below r in ((λ e. omega (arith, e)), inl (omega arith), inl (omega arith))
-stack-untouched frame k (InSlot slot) placed low high = (tt, inl (omega arith), inl (omega arith))
 
 -- what other places contain, where ESP and EBP and a place apart are kept
 others-same : (code : Code) (f : ℕ) (items : List Item) (frame : ℕ) (p q : Place) (width : Option Width) (w : ℕ)
@@ -126,69 +112,7 @@ stands-low code active frames u (Some One) value (InByte r) w for low holds = su
 stands-low code active frames u (Some One) value (InSlot slot) w for low holds = (w % 256, holds.1, low)
 stands-low code active frames u None value place w for low holds = absurd for
 
--- ---- at another address
-
--- all that is kept is kept with another EIP
-pub keeps-at : (code : Code) (g : graph.State) (frames : List ℕ) (set : Option ℕ) (address : ℕ) (s u : machine.State)
-    → KeepsShown code g frames set s u → KeepsShown code g frames set s (at_address address u)
-keeps-at code g frames set address s u keeps =
-    record {
-      esp = keeps.esp;
-      ebp = keeps.ebp;
-      protected = λ n a w reads e. load-same n a w u (at_address address u) refl (keeps.protected n a w reads e);
-      others = λ v place distinct behind. elsewhere place (keeps.others v place distinct behind);
-    }
-  where
-    elsewhere : (place : Place) → IsSame (word_of Ebp s) place s u
-        → IsSame (word_of Ebp s) place s (at_address address u)
-    elsewhere (InWord r) h = h
-    elsewhere (InByte r) h = h
-    elsewhere (InSlot slot) h = λ n w long e.
-        load-same n (word_of Ebp s - slot) w u (at_address address u) refl (h n w long e)
-
--- and a value stands where it did
-pub stands-at : (code : Code) (active : List Activation) (frames : List ℕ) (address : ℕ) (u : machine.State) (base : ℕ)
-    (width : Option Width) (value : Value) (place : Place) → StandsIn code active frames u base width value place
-    → StandsIn code active frames (at_address address u) base width value place
-stands-at code active frames address u base width value (InWord r) h = h
-stands-at code active frames address u base width value (InByte r) h = h
-stands-at code active frames address u base (Some Two) value (InSlot slot) h =
-    (h.0, load-same 4 (base - slot) h.0 u (at_address address u) refl h.1, h.2)
-stands-at code active frames address u base (Some One) value (InSlot slot) h =
-    (h.0, load-same 1 (base - slot) h.0 u (at_address address u) refl h.1, h.2)
-stands-at code active frames address u base None value (InSlot slot) h = absurd h
-
 -- ---- where it leads
-
--- the next point is in the block
-pub following-in : (p q : ℕ) (ps : List ℕ) → following p ps ≡ Some q → IsIn q ps
-following-in p q [] e = absurd (none-some q e)
-following-in p q (r ∷ rs) e =
-    let P : Option ℕ → Type 0 = λ (o : Option ℕ). o ≡ Some q → IsIn q (r ∷ rs) in
-    let by : P (following p (r ∷ rs)) = choose r p P (slice_get rs 0) (following p rs) (λ same k. inr (first-in rs k))
-    (λ k. inr (following-in p q rs k)) in
-    by e
-  where
-    first-in : (xs : List ℕ) → slice_get xs 0 ≡ Some q → IsIn q xs
-    first-in [] k = absurd (none-some q k)
-    first-in (x ∷ xs) k = inl (same_Some x q k)
-
--- what is ready is at an address of 32 bits
-pub at-own-address : (code : Code) (f : ℕ) (items : List Item) (s : machine.State) → IsSupported code
-    → ReadyAt (site_of code f) items s → at_address s.eip s ≡ s
-at-own-address code f items s supported ready =
-    let here = ready.here in
-    let whole : length code.text ≡ length here.done + length (ready.bytes ++ here.rest) =
-    ap length here.whole ∙ length-append here.done (ready.bytes ++ here.rest) in
-    let above = text-above code.text in
-    let small : s.eip < 2 ^ 32 = counted s.eip (length here.done) (length (ready.bytes ++ here.rest))
-    (length code.text) (data_start code.text) (data_memory (objects_of code.program)) here.place whole above
-    supported.fits in
-    ap (λ (e : ℕ). let t : machine.State = record s { eip = e } in t) (mod-eq_of_lt small)
-  where
-    counted : (e d r n low m : ℕ) → e ≡ text_start + d → n ≡ d + r → text_start + n ≤ low → low + m < 0x1_0000_0000
-        → e < 2 ^ 32
-    counted e d r n low m h i j k = omega arith
 
 -- a row that puts the word of a value into the place of a variable, and then the next point
 pub puts-follow : (code : Code) (input : List ℕ) (g : graph.State) (s : machine.State) (o : Op) (d w : ℕ)
@@ -201,7 +125,7 @@ pub puts-follow : (code : Code) (input : List ℕ) (g : graph.State) (s : machin
     place w s u)
     → IsLow code (active_of g) shown.frames (slice_get (flow_at code.program g.current.function).widths d) value w
     → IsOldArray (depth_of g) value
-    → Follows code input s g false (sets code.program g d value)
+    → FollowsKept code input s g false (sets code.program g d value)
 puts-follow code input g s o d w value place items supported state shown has defines leads r at (u, puts) low old =
     follow (point_after code.program g.current.function g.block g.point) refl
   where
@@ -218,9 +142,9 @@ puts-follow code input g s o d w value place items supported state shown has def
     for = (point-supported code g o supported state has).after d place at
 
     follow : (next : Option ℕ) → point_after code.program g.current.function g.block g.point ≡ next
-        → Follows code input s g false (at_point g.block (with_value d value g) next)
+        → FollowsKept code input s g false (at_point g.block (with_value d value g) next)
     follow None e = tt
-    follow (Some q) e =
+    follow (Some q) e = λ kept.
         let own : at_address s.eip s ≡ s = at-own-address code g.current.function (items ++ r.rest) s supported r.ready
         in
         let ready : ReadyAt site (items ++ r.rest) (at_address s.eip s) =
@@ -229,29 +153,26 @@ puts-follow code input g s o d w value place items supported state shown has def
         let t : machine.State = at_address went.0 u in
         let comes : Comes code.text s t = subst (λ (x : machine.State). Comes code.text x t) own went.1 in
         let more = r.follows q e in
-        let there : ReadyAt site (item.Point q ∷ more.0) t =
-        subst (λ (xs : List Item). ReadyAt site xs t) more.1 went.2 in
-        let point = point-passed site.symbols site.places site.text q more.0 t there in (
-          t,
-          comes,
-          set-shows code input g s t o d value g.block q g.left g.taken g.written supported state shown has defines
-              (keeps-at code g shown.frames (Some d) went.0 s u keeps)
-              (λ other f. subst (StandsIn code (active_of g) shown.frames t (word_of Ebp t)
-              (slice_get (flow_at code.program g.current.function).widths d) value)
-              (same_Some place other (sym at ∙ f)) (stands-at code (active_of g) shown.frames went.0 u (word_of Ebp u)
-              (slice_get (flow_at code.program g.current.function).widths d) value place (stands-low code
-              (active_of g) shown.frames u
-              (slice_get (flow_at code.program g.current.function).widths d) value place w for.holds low puts.holds)))
-              old
-              (record {
-                leads = ((g.block, state.placed), o, has, leads q (g.block, e));
-                placed = following-in g.point q (points_of (flow_at code.program g.current.function) g.block) e;
-                sound = sound-at site.text site.low site.high went.0 u puts.framed.sound;
-                eip = sym point.0 ∙ sym (address-at code.places g.current.function q);
-                left = puts.keeps.left ∙ shown.left;
-                taken = puts.keeps.taken ∙ shown.taken;
-                written = puts.keeps.written ∙ shown.written;
-                of_input = puts.keeps.left ∙ shown.of_input
-                    ∙ ap (λ (k : ℕ). drop k input) (sym puts.keeps.taken);
-              }),
-        )
+        lands code input g.point (with_value d value (moved_to g.block q g.left g.taken g.written g))
+        g.current.function q refl refl s t r.rest more.0 supported kept
+        ((g.block, state.placed), o, has, leads q (g.block, e))
+        (comes) went.2 more.1
+        (set-shows code input g s t o d value g.block q g.left g.taken g.written supported state shown has defines
+        (keeps-at code g shown.frames (Some d) went.0 s u keeps)
+        (λ other f. subst (StandsIn code (active_of g) shown.frames t (word_of Ebp t)
+        (slice_get (flow_at code.program g.current.function).widths d) value)
+        (same_Some place other (sym at ∙ f)) (stands-at code (active_of g) shown.frames went.0 u (word_of Ebp u)
+        (slice_get (flow_at code.program g.current.function).widths d) value place (stands-low code
+        (active_of g) shown.frames u
+        (slice_get (flow_at code.program g.current.function).widths d) value place w for.holds low puts.holds)))
+        old
+        (record {
+          leads = ((g.block, state.placed), o, has, leads q (g.block, e));
+          placed = following-in g.point q (points_of (flow_at code.program g.current.function) g.block) e;
+          sound = sound-at site.text site.low site.high went.0 u puts.framed.sound;
+          left = puts.keeps.left ∙ shown.left;
+          taken = puts.keeps.taken ∙ shown.taken;
+          written = puts.keeps.written ∙ shown.written;
+          of_input = puts.keeps.left ∙ shown.of_input
+              ∙ ap (λ (k : ℕ). drop k input) (sym puts.keeps.taken);
+        }))

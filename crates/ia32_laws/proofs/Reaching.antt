@@ -28,7 +28,7 @@ use Rattle.flow_graph.specs.States.{active_of, array_at, element_at, elements_of
 use Rattle.flow_graph.specs.States.{with_array, with_element}
 use Rattle.flow_graph.proofs.Numbers.{element-fits}
 use Rattle.flow_graph.proofs.Values.{number-is}
-use Rattle.ia32_rows.specs.Follows.{Follows}
+use Rattle.ia32_laws.proofs.Landing.{FollowsKept, followed}
 use Rattle.ia32_rows.specs.Placements.{Code, placement_of}
 use Rattle.ia32_rows.specs.Shows.{IsArrayAt}
 use Rattle.ia32_rows.specs.Sites.{Anywhere, Framed, ReadyAt, Site}
@@ -76,10 +76,11 @@ element-address code f bits p q w i u base index fits =
 
 pub load-follows : LoadFollows
 load-follows bits d p i code input g s supported state shown has r =
-    given-any (Follows code input s g false) (array_at g p)
+    followed code input g s (op.Load bits d p i) false supported state has (
+    given-any (FollowsKept code input s g false) (array_at g p)
     (λ array. given (number_at g i) (loads code.program g bits d array)) tt (λ array a_is.
-    given-any (Follows code input s g false) (number_at g i) (loads code.program g bits d array) tt (λ z z_is.
-    both array a_is z z_is))
+    given-any (FollowsKept code input s g false) (number_at g i) (loads code.program g bits d array) tt (λ z z_is.
+    both array a_is z z_is)))
   where
     o : Op
     o = op.Load bits d p i
@@ -97,9 +98,9 @@ load-follows bits d p i code input g s supported state shown has r =
     framed = (shown-in-frame code input g s supported state shown).framed
 
     both : (array : ArrayName) → array_at g p ≡ Some array → (z : ℤ) → number_at g i ≡ Some z
-        → Follows code input s g false (loads code.program g bits d array z)
+        → FollowsKept code input s g false (loads code.program g bits d array z)
     both array a_is z z_is =
-        by-array (Follows code input s g false) code g bits array
+        by-array (FollowsKept code input s g false) code g bits array
         (λ elements. checked (element_at elements z) (λ n. sets code.program g d (Number n)))
         (λ none. ends-there code input g s shown
         (null-fails site frame one.place two.place one.word index 0 back s s.eip one.holds one.inside one.contains
@@ -143,9 +144,9 @@ load-follows bits d p i code input g s supported state shown has r =
 
         inside : (elements : List ℤ) → elements_of code.program g array ≡ Some (bytes_of bits, elements)
             → IsThere code s one.word (bytes_of bits) elements
-            → Follows code input s g false (checked (element_at elements z) (λ n. sets code.program g d (Number n)))
+            → FollowsKept code input s g false (checked (element_at elements z) (λ n. sets code.program g d (Number n)))
         inside elements is there =
-            by-element (Follows code input s g false) elements z (λ n. sets code.program g d (Number n)) two.fits
+            by-element (FollowsKept code input s g false) elements z (λ n. sets code.program g d (Number n)) two.fits
             there.few
             (λ past. ends-there code input g s shown
             (past-fails site frame one.place two.place one.word index (length elements) back s s.eip one.holds
@@ -155,7 +156,7 @@ load-follows bits d p i code input g s supported state shown has r =
             (λ k n e f has_n. found k n f has_n)
           where
             found : (k : ℕ) (n : ℤ) → index ≡ k → slice_get elements k ≡ Some n
-                → Follows code input s g false (sets code.program g d (Number n))
+                → FollowsKept code input s g false (sets code.program g d (Number n))
             found k n f has_n =
                 let size : ℕ = bytes_of bits in
                 let lt : k < length elements = slice_get_within elements k n has_n in
@@ -217,12 +218,13 @@ lea-makes site frame mem a s framed at =
 
 pub store-follows : StoreFollows
 store-follows bits p i c code input g s supported state shown has r =
-    given-any (Follows code input s g false) (array_at g p)
+    followed code input g s (op.Store bits p i c) false supported state has (
+    given-any (FollowsKept code input s g false) (array_at g p)
     (λ array. given (number_at g i) (λ index. given (number_at g c) (stores code.program g bits array index))) tt
-    (λ array a_is. given-any (Follows code input s g false) (number_at g i)
+    (λ array a_is. given-any (FollowsKept code input s g false) (number_at g i)
     (λ index. given (number_at g c) (stores code.program g bits array index)) tt
-    (λ z z_is. given-any (Follows code input s g false) (number_at g c) (stores code.program g bits array z) tt
-    (λ x x_is. all array a_is z z_is x x_is)))
+    (λ z z_is. given-any (FollowsKept code input s g false) (number_at g c) (stores code.program g bits array z) tt
+    (λ x x_is. all array a_is z z_is x x_is))))
   where
     o : Op
     o = op.Store bits p i c
@@ -240,9 +242,9 @@ store-follows bits p i c code input g s supported state shown has r =
     framed = (shown-in-frame code input g s supported state shown).framed
 
     all : (array : ArrayName) → array_at g p ≡ Some array → (z : ℤ) → number_at g i ≡ Some z → (x : ℤ)
-        → number_at g c ≡ Some x → Follows code input s g false (stores code.program g bits array z x)
+        → number_at g c ≡ Some x → FollowsKept code input s g false (stores code.program g bits array z x)
     all array a_is z z_is x x_is =
-        by-array (Follows code input s g false) code g bits array
+        by-array (FollowsKept code input s g false) code g bits array
         (λ elements. checked (element_at elements z)
         (λ old. onward code.program (with_array array (with_element elements z (stored bits x)) g)))
         (λ none. ends-there code input g s shown
@@ -288,10 +290,10 @@ store-follows bits p i c code input g s supported state shown has r =
 
         inside : (elements : List ℤ) → elements_of code.program g array ≡ Some (bytes_of bits, elements)
             → IsThere code s one.word (bytes_of bits) elements
-            → Follows code input s g false (checked (element_at elements z)
+            → FollowsKept code input s g false (checked (element_at elements z)
             (λ old. onward code.program (with_array array (with_element elements z (stored bits x)) g)))
         inside elements is there =
-            by-element (Follows code input s g false) elements z
+            by-element (FollowsKept code input s g false) elements z
             (λ old. onward code.program (with_array array (with_element elements z (stored bits x)) g)) two.fits
             there.few
             (λ past. ends-there code input g s shown
@@ -300,12 +302,12 @@ store-follows bits p i c code input g s supported state shown has r =
             one.contains one.small two.holds two.inside two.contains (word-fits z two.fits) came there.now.front
             there.now.stand.0 past (check-stands code g.current.function supported)))
             (λ k old e f has_old.
-            subst (λ (y : ℤ). Follows code input s g false
+            subst (λ (y : ℤ). FollowsKept code input s g false
             (onward code.program (with_array array (with_element elements y (stored bits x)) g))) (sym e)
             (found k old f has_old))
           where
             found : (k : ℕ) (old : ℤ) → index ≡ k → slice_get elements k ≡ Some old
-                → Follows code input s g false
+                → FollowsKept code input s g false
                 (onward code.program (with_array array (slice_set elements k (stored bits x)) g))
             found k old f has_old =
                 let size : ℕ = bytes_of bits in

@@ -22,7 +22,7 @@ use Rattle.flow_graph.specs.States as graph
 use Rattle.flow_graph.specs.States.{flow_at, op_at}
 use Rattle.flow_graph.specs.WellFormed.{IsState}
 use Rattle.flow_graph.proofs.Numbers.{byte-fits}
-use Rattle.ia32_rows.specs.Follows.{Follows}
+use Rattle.ia32_laws.proofs.Landing.{FollowsKept, followed}
 use Rattle.ia32_rows.specs.Placements.{Code, placement_of}
 use Rattle.ia32_rows.specs.Shows.{Shows}
 use Rattle.ia32_rows.specs.Sites.{Framed, ReadyAt, Site, StandsFrom}
@@ -139,7 +139,7 @@ record Begun (code : Code) (g : graph.State) (s : State) (d : ℕ) : Type 0 wher
 none-follows : (d : ℕ) (code : Code) (input : List ℕ) (g : graph.State) (s : State) → IsSupported code
     → IsState code.program g → (shown : Shows code input g s) → op_at code.program g ≡ Some (op.Getchar d)
     → (h : Begun code g s d) → g.left ≡ []
-    → Follows code input s g false (gets code.program g d [])
+    → FollowsKept code input s g false (gets code.program g d [])
 none-follows d code input g s supported state shown has h none =
     let p = h.ask.called.pushed in
     let got = gets-none (site_of code g.current.function) h.address h.begun p.sound h.ask.called.ready h.ask.low
@@ -167,7 +167,7 @@ none-follows d code input g s supported state shown has h none =
 one-follows : (d y : ℕ) (ys : List ℕ) (code : Code) (input : List ℕ) (g : graph.State) (s : State) → IsSupported code
     → IsState code.program g → (shown : Shows code input g s) → op_at code.program g ≡ Some (op.Getchar d)
     → (h : Begun code g s d) → g.left ≡ y ∷ ys
-    → Follows code input s g false (gets code.program g d (y ∷ ys))
+    → FollowsKept code input s g false (gets code.program g d (y ∷ ys))
 one-follows d y ys code input g s supported state shown has h some =
     let p = h.ask.called.pushed in
     let small : y < 256 = All-head (λ byte. byte < 256) y ys (subst AreBytes some state.left) in
@@ -196,7 +196,8 @@ one-follows d y ys code input g s supported state shown has h some =
 
 pub getchar-follows : GetcharFollows
 getchar-follows d code input g s supported state shown has r =
-    follow g.left refl
+    followed code input g s (op.Getchar d) false supported state has (
+    follow g.left refl)
   where
     begun : Begun code g s d
     begun =
@@ -218,6 +219,6 @@ getchar-follows d code input g s supported state shown has r =
           ask = ask.2;
         }
 
-    follow : (l : List ℕ) → g.left ≡ l → Follows code input s g false (gets code.program g d l)
+    follow : (l : List ℕ) → g.left ≡ l → FollowsKept code input s g false (gets code.program g d l)
     follow [] e = none-follows d code input g s supported state shown has begun e
     follow (y ∷ ys) e = one-follows d y ys code input g s supported state shown has begun e

@@ -18,7 +18,7 @@ entries-are-ready code input g s h below c =
     let placement : Placement = placement_of code f in
     let at = entries-stand code f s.eip g.point h below c.eip c.begins in
     let items : List Item =
-    prologue placement.frame (entry_label flow)
+    prologue placement.frame placement.zeroed (entry_label flow)
     ++ (headers flow.arrays placement.arrays ++ (item.Label 0 ∷ item.Point g.point ∷ at.more)) in
     record {
       label = entry_label flow;

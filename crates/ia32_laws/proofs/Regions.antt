@@ -1,11 +1,11 @@
 -- The elements of an array have no byte in common with what else is read.
 use Rattle.std.proofs.Common.{◌≡◌, ◌≢◌, ◌⊎◌, ℕ, zero, suc, ◌+◌, ◌-◌, ◌*◌, ◌<◌, ◌≤◌, ℤ, List, length, Some, inl, inr}
 use Rattle.std.proofs.Common.{refl, sym, ap, subst, ◌∙◌, arith}
-use Rattle.std.specs.Prelude.{slice_get}
+use Rattle.std.specs.Prelude.{Option, slice_get}
 use Rattle.std.proofs.lemmas.Option.{same_Some}
 use Rattle.pcc_base.specs.Objects.{Object}
 use Rattle.ia32_insn.specs.declared.register_names.Reg32.TheVariants.{Esp, Ebp}
-use Rattle.ia32_insn.specs.Places.{InSlot}
+use Rattle.ia32_insn.specs.Places.{Place, InSlot}
 use Rattle.ia32_insn.specs.State as machine
 use Rattle.ia32_insn.specs.Meaning.{word_of}
 use Rattle.ia32_insn.specs.Items.{data_start}
@@ -15,7 +15,7 @@ use Rattle.flow_graph.specs.States.{Activation, active_of, flow_at}
 use Rattle.flow_graph.specs.WellFormed.{AreElementsIn, IsState}
 use Rattle.flow_graph.proofs.Lists.{zip-at}
 use Rattle.ia32_rows.specs.Placements.{Code, objects_of, placement_of}
-use Rattle.ia32_rows.specs.Shows.{Shows}
+use Rattle.ia32_rows.specs.Shows.{Shows, ShowsIn}
 use Rattle.ia32_laws.specs.Supports.{AreArraysApart, IsPlaceFor, IsSlotApart, IsSupported, size_of}
 use Rattle.ia32_laws.specs.Protected.{FrameArrayReads, ObjectReads}
 use Rattle.ia32_laws.specs.KeepsLaws.{data_end}
@@ -286,9 +286,10 @@ other-array-apart code input g s c k address width elements m at n supported sta
 -- ---- above ESP
 
 -- each call's bytes are above ESP
-pub call-above : (code : Code) (input : List ℕ) (g : graph.State) (s : machine.State) (j : ℕ) (a : Activation)
+pub call-above : {places : ℕ → Option Place} {eip : ℕ}
+    (code : Code) (input : List ℕ) (g : graph.State) (s : machine.State) (j : ℕ) (a : Activation)
     (frame : ℕ)
-    → (shown : Shows code input g s) → IsCallAt g shown.frames j a frame
+    → (shown : ShowsIn code input places eip g s) → IsCallAt g shown.frames j a frame
     → word_of Esp s + frame_size code a ≤ frame
 call-above code input g s zero a frame shown at =
     let (same, ebp) = youngest-is code input g s a frame shown at in

@@ -19,21 +19,23 @@ use Rattle.ia32_insn.specs.Meaning.{load, with_word, word_of}
 use Rattle.ia32_insn.specs.Items.{data_bytes, data_start}
 use Rattle.flow_graph.specs.declared.op.Op.TheVariants as op
 use Rattle.flow_graph.specs.Graphs.{FitsOp, points_of}
+use Rattle.flow_graph.specs.Liveness.{IsSuccessor}
 use Rattle.flow_graph.specs.Meaning.{at_point, back_to, result_to}
 use Rattle.flow_graph.specs.States as graph
 use Rattle.flow_graph.specs.States.{Activation, Waiting, active_of, depth_of, flow_at, op_of, point_after}
 use Rattle.flow_graph.specs.WellFormed.{IsState}
 use Rattle.flow_graph.proofs.Values.{op-at}
-use Rattle.ia32_rows.specs.Follows.{Follows}
+use Rattle.ia32_laws.specs.MovesLaws.{ShowsBehind}
+use Rattle.ia32_laws.proofs.Landing.{FollowsKept, lands}
 use Rattle.ia32_rows.specs.Paths.{Comes}
 use Rattle.ia32_rows.specs.Placements.{Code, objects_of, placement_of}
 use Rattle.ia32_rows.specs.Shows.{IsOldArray, Shows, StandsIn, WaitFrom, Waits}
 use Rattle.ia32_rows.specs.Sites.{Framed, ReadyAt, Site}
 use Rattle.ia32_rows.proofs.Sets.{ready-from}
 use Rattle.ia32_rows.proofs.Sound.{load-place, load-same, sound-at, sound-with_word}
-use Rattle.ia32_rows.proofs.Steps.{comes-then, point-passed}
+use Rattle.ia32_rows.proofs.Steps.{comes-then}
 use Rattle.ia32_rows.specs.CallsLaws.{Returned}
-use Rattle.ia32_rows.specs.Rows.{drop_words, place_after, undeepen, write}
+use Rattle.ia32_rows.specs.Rows.{drop_words, moves_to, place_after, undeepen, write}
 use Rattle.ia32_rows.specs.Contains.{ApartFromPlace, Untouched}
 use Rattle.ia32_rows.specs.Effects.{OutsideWord}
 use Rattle.ia32_rows.specs.Laws.{Puts}
@@ -45,9 +47,9 @@ use Rattle.ia32_laws.specs.Protected.{IsSame}
 use Rattle.ia32_laws.specs.Supports.{IsPlaceFor, IsSupported, SupportsPoint, site_of}
 use Rattle.ia32_laws.proofs.KeepsApart.{IsSomewhere}
 use Rattle.ia32_laws.proofs.Chain.{same-place}
-use Rattle.ia32_laws.proofs.Memory.{address-at}
 use Rattle.ia32_laws.proofs.Objects.{depth-in}
-use Rattle.ia32_laws.proofs.Puts.{IsLow, at-own-address, following-in, stands-at}
+use Rattle.ia32_laws.proofs.Puts.{IsLow}
+use Rattle.ia32_laws.proofs.Elsewhere.{at-own-address, following-in, stands-at}
 use Rattle.ia32_laws.proofs.Shown.{after-set}
 use Rattle.ia32_laws.proofs.Zones.{frame_size, shown-in-frame}
 use Rattle.ia32_laws.proofs.Beside.{cells-apart, memory-apart, same-from, stack-untouched, stands-low}
@@ -280,18 +282,14 @@ call-is code input g s w waiting base rest h =
       function = lt;
     }
 
--- where places stay to the next point
-next-places : (code : Code) (input : List ℕ) (g : graph.State) (s : machine.State) (w : Waiting)
-    (waiting : List Waiting) (base : ℕ) (rest : List ℕ) (q v : ℕ) (place : Place)
-    → (h : Waited code input g s w waiting base rest)
+-- the next point follows the call
+pub goes-behind : (code : Code) (input : List ℕ) (g : graph.State) (s : machine.State) (w : Waiting)
+    (waiting : List Waiting) (base : ℕ) (rest : List ℕ) (q : ℕ) → (h : Waited code input g s w waiting base rest)
     → point_after code.program w.activation.function w.block w.point ≡ Some q
-    → (placement_of code w.activation.function).before q v ≡ Some place
-    → (placement_of code w.activation.function).after w.point v ≡ Some place
-next-places code input g s w waiting base rest q v place h e at =
+    → IsSuccessor (flow_at code.program w.activation.function) w.point q
+goes-behind code input g s w waiting base rest q h e =
     let c = (h.link).calls in
-    let lt = ((h.state).active.1).0.function in
-    ((h.supported).supports w.activation.function lt).along w.point q v place
-    ((w.block, c.placed), op.Call c.result g.current.function c.words, c.calls, (w.block, e)) at
+    ((w.block, c.placed), op.Call c.result g.current.function c.words, c.calls, (w.block, e))
 
 -- another variable than the result stands where it did
 others-stand : (code : Code) (input : List ℕ) (g : graph.State) (s m : machine.State) (w : Waiting)
@@ -332,17 +330,15 @@ others-stand code input g s m w waiting base rest x items variables q v value pl
 
 -- ---- without a result
 
-none-follows : (code : Code) (input : List ℕ) (g : graph.State) (s m : machine.State) (w : Waiting)
-    (waiting : List Waiting) (base : ℕ) (rest : List ℕ) (x q : ℕ) (more : List Item)
+none-shows : (code : Code) (input : List ℕ) (g : graph.State) (s m : machine.State) (w : Waiting)
+    (waiting : List Waiting) (base : ℕ) (rest : List ℕ) (x q : ℕ) (items : List Item)
     → (h : Waited code input g s w waiting base rest) → (h.link).calls.result ≡ None
-    → AtCaller code g w waiting base x (h.link).ebx (item.Point q ∷ more) s m
+    → AtCaller code g w waiting base x (h.link).ebx items s m
     → point_after code.program w.activation.function w.block w.point ≡ Some q
-    → Shows code input (resumed g w waiting w.activation.variables q) m
-none-follows code input g s m w waiting base rest x q more h none at e =
+    → ShowsBehind code input w.point (resumed g w waiting w.activation.variables q) m
+none-shows code input g s m w waiting base rest x q items h none at e =
     let f : ℕ = w.activation.function in
-    let site : Site = site_of code f in
     let z = sizes code input g s w waiting base rest h in
-    let point = point-passed site.symbols site.places site.text q more m at.ready in
     let esp = (at.framed).esp in
     back-shows code input g s m w waiting w.activation.variables q base rest h.supported h.state h.shown h.frames
     h.chain z.room z.high z.large z.more z.higher
@@ -350,7 +346,6 @@ none-follows code input g s m w waiting base rest x q more h none at e =
       sound = (at.framed).sound;
       ebp = at.ebp;
       esp = esp ∙ at.ebp;
-      eip = sym point.0 ∙ sym (address-at code.places f q);
       depth = at.depth;
       kept = λ n b v some low. at.kept n b v low;
       left = at.left;
@@ -358,9 +353,8 @@ none-follows code input g s m w waiting base rest x q more h none at e =
       written = at.written;
     }) (following-in w.point q (points_of (flow_at code.program f) w.block) e)
     (λ v value place has there.
-    others-stand code input g s m w waiting base rest x (item.Point q ∷ more) w.activation.variables q v value place h
-    at has (λ same. no v (same ∙ none)) (next-places code input g s w waiting base rest q v place h e there) m
-    (same-place base place m))
+    others-stand code input g s m w waiting base rest x items w.activation.variables q v value place h
+    at has (λ same. no v (same ∙ none)) there m (same-place base place m))
     (λ v value has. subst (λ (n : ℕ). IsOldArray n value)
     (let one : suc (suc (length waiting)) - 1 ≡ suc (length waiting) = omega arith in one)
     (((h.shown).old_arrays 1 w.activation refl).0 v value has))
@@ -370,27 +364,26 @@ none-follows code input g s m w waiting base rest x q more h none at e =
 
 -- ---- with one
 
-some-follows : (code : Code) (input : List ℕ) (g : graph.State) (s m : machine.State) (w : Waiting)
-    (waiting : List Waiting) (base : ℕ) (rest : List ℕ) (d q : ℕ) (n : ℤ) (place : Place) (more : List Item)
+some-shows : (code : Code) (input : List ℕ) (g : graph.State) (s m : machine.State) (w : Waiting)
+    (waiting : List Waiting) (base : ℕ) (rest : List ℕ) (d q : ℕ) (n : ℤ) (place : Place) (items : List Item)
     → (h : Waited code input g s w waiting base rest) → (h.link).calls.result ≡ Some d → FitsSigned w32 n
     → (placement_of code w.activation.function).after w.point d ≡ Some place
-    → AtCaller code g w waiting base (cast_unsigned w32 n) (h.link).ebx (write place Eax ++ (item.Point q ∷ more)) s m
+    → AtCaller code g w waiting base (cast_unsigned w32 n) (h.link).ebx (write place Eax ++ items) s m
     → point_after code.program w.activation.function w.block w.point ≡ Some q
-    → (t : machine.State) × Comes code.text m t
-    × Shows code input (resumed g w waiting (slice_set w.activation.variables d (Number n)) q) t
-some-follows code input g s m w waiting base rest d q n place more h result fits behind at e =
+    → (t : machine.State) × Comes code.text m t × ReadyAt (site_of code w.activation.function) items t
+    × ShowsBehind code input w.point (resumed g w waiting (slice_set w.activation.variables d (Number n)) q) t
+some-shows code input g s m w waiting base rest d q n place items h result fits behind at e =
     let x : ℕ = cast_unsigned w32 n in
     let four = ((h.supported).supports f c.function).four_words in
     let last = write-puts site size place Eax x m at.framed four for.inside at.eax in
     let v : machine.State = last.0 in
-    let items : List Item = write place Eax ++ (item.Point q ∷ more) in
-    let own : at_address m.eip m ≡ m = at-own-address code f items m h.supported at.ready in
-    let went = straight-goes site (write place Eax) (item.Point q ∷ more) m v m.eip (at.framed).sound
-    (subst (ReadyAt site items) (sym own) at.ready) (last.1).leads in
+    let all : List Item = write place Eax ++ items in
+    let own : at_address m.eip m ≡ m = at-own-address code f all m h.supported at.ready in
+    let went = straight-goes site (write place Eax) items m v m.eip (at.framed).sound
+    (subst (ReadyAt site all) (sym own) at.ready) (last.1).leads in
     let t : machine.State = at_address went.0 v in
     let comes : Comes code.text m t = subst (λ (y : machine.State). Comes code.text y t) own went.1 in
-    let point = point-passed site.symbols site.places site.text q more t went.2 in
-    (t, comes, shown-behind v went.0 four last.1 point.0)
+    (t, comes, went.2, shown-behind v went.0 four last.1)
   where
     f : ℕ
     f = w.activation.function
@@ -415,9 +408,8 @@ some-follows code input g s m w waiting base rest d q n place more h result fits
 
     shown-behind : (v : machine.State) (address : ℕ) → 16 ≤ size
         → Puts site size (write place Eax) place (cast_unsigned w32 n) m v
-        → site.places.points q ≡ (at_address address v).eip
-        → Shows code input (resumed g w waiting variables q) (at_address address v)
-    shown-behind v address four puts eip =
+        → ShowsBehind code input w.point (resumed g w waiting variables q) (at_address address v)
+    shown-behind v address four puts =
         let t : machine.State = at_address address v in
         let S : ℕ → Type 0 = Untouched place in
         let K : ℕ → ℕ → Type 0 = ApartFromPlace (word_of Ebp m) place in
@@ -436,7 +428,6 @@ some-follows code input g s m w waiting base rest d q n place more h result fits
           sound = sound-at site.text site.low site.high address v (puts.framed).sound;
           ebp = ebp ∙ at.ebp;
           esp = esp ∙ ebp ∙ at.ebp;
-          eip = sym eip ∙ sym (address-at code.places f q);
           depth = kept 4 code.symbols.depth (suc (length waiting)) (inl (depth-low (data_start code.text)
               code.symbols.depth (data_end code) (h.supported).is_code.text.depth_is z.more)) at.depth;
           kept = λ j b y some low held. kept j b y some (at.kept j b y low held);
@@ -444,8 +435,7 @@ some-follows code input g s m w waiting base rest d q n place more h result fits
           taken = puts.keeps.taken ∙ at.taken;
           written = puts.keeps.written ∙ at.written;
         }) (following-in w.point q (points_of (flow_at code.program f) w.block) e)
-        (λ u value other has there. stand v address puts ebp u value other
-        (next-places code input g s w waiting base rest q u other h e there)
+        (λ u value other has there. stand v address puts ebp u value other there
         (after-set w.activation.variables d u (Number n) value has))
         (λ u value has. olden u value (after-set w.activation.variables d u (Number n) value has))
       where
@@ -497,7 +487,7 @@ some-follows code input g s m w waiting base rest d q n place more h result fits
             let inside = ((c.supports).after u other there).inside in
             let apart = (c.supports).after_apart d u place other distinct.0 behind there in
             others-stand code input g s m w waiting base rest (cast_unsigned w32 n)
-            (write place Eax ++ (item.Point q ∷ more)) variables q u value other h at distinct.1
+            (write place Eax ++ items) variables q u value other h at distinct.1
             (λ same. distinct.0 (sym (same_Some u d (same ∙ result)))) there (at_address address v)
             (same-elsewhere base address other m v (subst (λ (k : ℕ). IsSame k other m v) at.ebp
             (same-from other m v ebp (λ width y contains. contains-kept S K m v width other y puts.keeps has_ebp
@@ -515,7 +505,7 @@ pub resume-follows : (code : Code) (input : List ℕ) (g : graph.State) (s u : m
     (waiting : List Waiting) (base : ℕ) (rest : List ℕ) (n : Option ℤ) (x r : ℕ)
     → (h : Waited code input g s w waiting base rest) → Returned (site_of code g.current.function) x r s u
     → BringsEbx s u → IsResult n x → BehindCall code w (h.link).calls.result (h.link).calls.words r
-    → Follows code input s (returning g w waiting) false (result_to code.program (back_to g w waiting) n
+    → FollowsKept code input s (returning g w waiting) false (result_to code.program (back_to g w waiting) n
     (Some (op.Call (h.link).calls.result g.current.function (h.link).calls.words)))
 resume-follows code input g s u w waiting base rest n x r h back brings is behind =
     follow n (h.link).calls.result refl is behind
@@ -542,32 +532,34 @@ resume-follows code input g s u w waiting base rest n x r h back brings is behin
     before : List Item
     before = drop_words (length words) ++ undeepen
 
-    none : (more : List Item) (q : ℕ) → (h.link).calls.result ≡ None
-        → ReadyAt site (before ++ (item.Point q ∷ more)) u
+    none : (items more : List Item) (q : ℕ) → (h.link).calls.result ≡ None → ReadyAt site (before ++ items) u
+        → items ≡ moves_to (placement_of code f) w.point (Some q) ++ item.Point q ∷ more
         → point_after code.program f w.block w.point ≡ Some q
-        → Follows code input s (returning g w waiting) false (at_point w.block (back_to g w waiting) (Some q))
-    none more q result ready e =
-        let p = at-caller code input g s u w waiting base rest x r (item.Point q ∷ more) (length words) h back brings
-        many small ready in
-        (p.0, (p.1).comes, none-follows code input g s p.0 w waiting base rest x q more h result p.1 e)
+        → FollowsKept code input s (returning g w waiting) false (at_point w.block (back_to g w waiting) (Some q))
+    none items more q result ready same e = λ kept.
+        let p = at-caller code input g s u w waiting base rest x r items (length words) h back brings many small ready
+        in
+        lands code input w.point (resumed g w waiting w.activation.variables q) f q refl refl s p.0 items more
+        h.supported kept (goes-behind code input g s w waiting base rest q h e) (p.1).comes (p.1).ready same
+        (none-shows code input g s p.0 w waiting base rest x q items h result p.1 e)
 
     no-result : (result : (h.link).calls.result ≡ None) → BehindCall code w None words r → (o : Option ℕ)
         → point_after code.program f w.block w.point ≡ o
-        → Follows code input s (returning g w waiting) false (at_point w.block (back_to g w waiting) o)
+        → FollowsKept code input s (returning g w waiting) false (at_point w.block (back_to g w waiting) o)
     no-result result at None e = tt
     no-result result at (Some q) e =
         let more = at.follows q e in
         let ready = ready-from site ((before ++ []) ++ at.rest) r u at.stands back.eip in
         let moved : ReadyAt site (before ++ at.rest) u =
         subst (λ (xs : List Item). ReadyAt site xs u) (append_assoc before [] at.rest) ready in
-        none more.0 q result (subst (λ (xs : List Item). ReadyAt site (before ++ xs) u) more.1 moved) e
+        none at.rest more.0 q result moved more.1 e
 
     a-result : (d : ℕ) (z : ℤ) → (h.link).calls.result ≡ Some d → FitsSigned w32 z → x ≡ cast_unsigned w32 z
         → BehindCall code w (Some d) words r → (o : Option ℕ) → point_after code.program f w.block w.point ≡ o
-        → Follows code input s (returning g w waiting) false (at_point w.block
+        → FollowsKept code input s (returning g w waiting) false (at_point w.block
         (graph.with_value d (Number z) (back_to g w waiting)) o)
     a-result d z result fits same at None e = tt
-    a-result d z result fits same at (Some q) e =
+    a-result d z result fits same at (Some q) e = λ kept.
         let more = at.follows q e in
         let c = call-is code input g s w waiting base rest h in
         let (place, there) = (c.supports).written d result in
@@ -578,17 +570,18 @@ resume-follows code input g s u w waiting base rest n x r h back brings is behin
         subst (λ (xs : List Item). ReadyAt site xs u) (append_assoc before (write p Eax) at.rest) ready in
         let placed : ReadyAt site (before ++ (write place Eax ++ at.rest)) u =
         subst (λ (y : Place). ReadyAt site (before ++ (write y Eax ++ at.rest)) u) is moved in
-        let last : ReadyAt site (before ++ (write place Eax ++ (item.Point q ∷ more.0))) u =
-        subst (λ (xs : List Item). ReadyAt site (before ++ (write place Eax ++ xs)) u) more.1 placed in
         let k = at-caller code input g s u w waiting base rest (cast_unsigned w32 z) r
-        (write place Eax ++ (item.Point q ∷ more.0)) (length words) h
-        (subst (λ (y : ℕ). Returned (site_of code g.current.function) y r s u) same back) brings many small last in
-        let t = some-follows code input g s k.0 w waiting base rest d q z place more.0 h result fits there k.1 e in
-        (t.0, comes-then code.text s k.0 t.0 (k.1).comes t.1, t.2)
+        (write place Eax ++ at.rest) (length words) h
+        (subst (λ (y : ℕ). Returned (site_of code g.current.function) y r s u) same back) brings many small placed in
+        let (t, comes, ready_there, shown) = some-shows code input g s k.0 w waiting base rest d q z place at.rest h
+        result fits there k.1 e in
+        lands code input w.point (resumed g w waiting (slice_set w.activation.variables d (Number z)) q) f q refl refl s
+        t at.rest more.0 h.supported kept (goes-behind code input g s w waiting base rest q h e)
+        (comes-then code.text s k.0 t (k.1).comes comes) ready_there more.1 shown
 
     follow : (o : Option ℤ) (result : Option ℕ) → (h.link).calls.result ≡ result → IsResult o x
         → BehindCall code w result words r
-        → Follows code input s (returning g w waiting) false (result_to code.program (back_to g w waiting) o
+        → FollowsKept code input s (returning g w waiting) false (result_to code.program (back_to g w waiting) o
         (Some (op.Call result g.current.function words)))
     follow None None result is at =
         no-result result at (point_after code.program f w.block w.point) refl

@@ -17,7 +17,7 @@ use Rattle.flow_graph.specs.States as graph
 use Rattle.flow_graph.specs.States.{Waiting, active_of, flow_at, number_at, op_at, op_of, value_at}
 use Rattle.flow_graph.specs.WellFormed.{IsState}
 use Rattle.flow_graph.proofs.Values.{number-is}
-use Rattle.ia32_rows.specs.Follows.{Follows}
+use Rattle.ia32_laws.proofs.Landing.{FollowsKept, followed}
 use Rattle.ia32_rows.specs.Placements.{Code, objects_of}
 use Rattle.ia32_rows.specs.Shows.{Shows, StartReturns, WaitFrom}
 use Rattle.ia32_rows.specs.Sites.{Site, StandsFrom}
@@ -86,7 +86,7 @@ finish : (code : Code) (input : List ℕ) (g : graph.State) (s : machine.State) 
     → (shown : Shows code input (waited g ws) s) → shown.older ≡ older → StandsBehind code (waited g ws)
     → WaitFrom code (active_of (waited g ws)) shown.frames s g.current (word_of Ebp s) ws older
     → IsResult n x → Leaves code g x s
-    → Follows code input s (waited g ws) false (returns_to code.program (waited g ws) ws n)
+    → FollowsKept code input s (waited g ws) false (returns_to code.program (waited g ws) ws n)
 finish code input g s None x [] [] h state shown same behind (main, none, r, returns, back) is leaves = tt
 finish code input g s (Some n) x [] [] h state shown same behind (main, none, r, returns, back) is leaves =
     let p = leaves r returns (start-fits code r h back) in
@@ -121,7 +121,7 @@ finish code input g s n x (w ∷ ws) (k ∷ rest) h state shown same behind chai
     let at = behind w ws calls.result calls.words link.return_address refl calls.calls link.returns_to in
     let p = leaves link.return_address link.returns
     (address-fits code w.activation.function _ link.return_address h at.stands) in
-    subst (λ (o : Option Op). Follows code input s (waited g (w ∷ ws)) false
+    subst (λ (o : Option Op). FollowsKept code input s (waited g (w ∷ ws)) false
     (result_to code.program (back_to g w ws) n o)) (sym calls.calls)
     (resume-follows code input g s p.0 w ws k rest n x link.return_address all p.1 p.2 is at)
 
@@ -135,12 +135,14 @@ given-some P (Some a) go none some = some a refl
 
 pub return-follows : ReturnFollows
 return-follows None code input g s h state shown has at behind =
+    followed code input g s (op.Return None) false h state has (
     finish code input g s None (word_of Eax s) g.waiting shown.older h state shown refl behind shown.chain tt
     (λ r held fits. leave-whole (site_of code g.current.function) (frame_size code g.current) (word_of Eax s) r at.rest
     s (shown-in-frame code input g s h state shown).framed
-    ((h.supports g.current.function (state.active.0).function).four_words) refl held fits at.ready)
+    ((h.supports g.current.function (state.active.0).function).four_words) refl held fits at.ready))
 return-follows (Some a) code input g s h state shown has at behind =
-    given-some (Follows code input s g false) (number_at g a)
+    followed code input g s (op.Return (Some a)) false h state has (
+    given-some (FollowsKept code input s g false) (number_at g a)
     (λ n. returns_to code.program g g.waiting (Some n)) tt (λ n e.
     let known = op-is code g (op.Return (Some a)) h state has in
     let held = has-number code input g s (op.Return (Some a)) a n h state shown has (inl refl) (known.fits).0
@@ -151,4 +153,4 @@ return-follows (Some a) code input g s h state shown has at behind =
     (λ r there fits. return-whole (site_of code g.current.function) (frame_size code g.current) held.place
     (cast_unsigned w32 n) r row.rest s (shown-in-frame code input g s h state shown).framed
     ((h.supports g.current.function (state.active.0).function).four_words) held.holds held.inside held.contains
-    (word-fits n held.fits) there fits row.ready))
+    (word-fits n held.fits) there fits row.ready)))

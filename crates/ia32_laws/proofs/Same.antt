@@ -20,7 +20,7 @@ use Rattle.flow_graph.specs.Graphs.{FitsOp}
 use Rattle.flow_graph.specs.Meaning.{Halts, Moved, arrays_compared, both, compared, first_of, given, onward}
 use Rattle.flow_graph.specs.States.{array_at, flow_at, number_at, value_at}
 use Rattle.flow_graph.proofs.Values.{number-is}
-use Rattle.ia32_rows.specs.Follows.{Follows}
+use Rattle.ia32_laws.proofs.Landing.{FollowsKept, followed}
 use Rattle.ia32_rows.specs.Paths.{Comes}
 use Rattle.ia32_rows.specs.Placements.{placement_of}
 use Rattle.ia32_rows.specs.Sites.{Anywhere, Framed, ReadyAt, Site}
@@ -32,7 +32,7 @@ use Rattle.ia32_rows.proofs.Straight.{straight-goes}
 use Rattle.ia32_laws.specs.Supports.{site_of}
 use Rattle.ia32_laws.specs.KeepsOps.{before_at}
 use Rattle.ia32_laws.proofs.Zones.{shown-in-frame}
-use Rattle.ia32_laws.proofs.Puts.{at-own-address}
+use Rattle.ia32_laws.proofs.Elsewhere.{at-own-address}
 use Rattle.ia32_laws.proofs.Words.{word-fits}
 use Rattle.ia32_laws.proofs.Ops.{HasNumber, at-before, has-number, op-is}
 use Rattle.ia32_laws.proofs.Choosing.{scratch-keeps}
@@ -45,8 +45,9 @@ use Rattle.ia32_laws.proofs.Traps.{check-passes, check-traps}
 
 pub numbers-same-follow : NumbersSameFollow
 numbers-same-follow a b code input g s x y supported state shown has a_is b_is r =
-    subst (λ (v : Option Bool). Follows code input s g false (given v go)) (sym known)
-    (chosen (compared Eq (signed m) (signed n)) refl)
+    followed code input g s (op.Same a b) false supported state has (
+    subst (λ (v : Option Bool). FollowsKept code input s g false (given v go)) (sym known)
+    (chosen (compared Eq (signed m) (signed n)) refl))
   where
     site : Site
     site = site_of code g.current.function
@@ -92,7 +93,7 @@ numbers-same-follow a b code input g s x y supported state shown has a_is b_is r
     ends : (u : machine.State) (address : ℕ) (rest : List Item) (c : Bool) → Framed site frame u
         → Keeps (OutsideWord Esi) Anywhere s u → Comes code.text s (at_address address u)
         → ReadyAt site (item.JumpTrap (Some cond.Ne) ∷ rest) (at_address address u) → IsNext code g rest
-        → holds cond.Ne u.flags ≡ Some (not c) → Follows code input s g false (go c)
+        → holds cond.Ne u.flags ≡ Some (not c) → FollowsKept code input s g false (go c)
     ends u address rest true framed keeps comes ready next decided =
         let t : machine.State = at_address address u in
         let last = check-passes site cond.Ne rest t (sound-at site.text site.low site.high address u framed.sound)
@@ -112,7 +113,7 @@ numbers-same-follow a b code input g s x y supported state shown has a_is b_is r
           keeps.written ∙ shown.written,
         )
 
-    chosen : (c : Bool) → compared Eq (signed m) (signed n) ≡ c → Follows code input s g false (go c)
+    chosen : (c : Bool) → compared Eq (signed m) (signed n) ≡ c → FollowsKept code input s g false (go c)
     chosen c is =
         let row = at-before code g s b two.place (λ p. same_row one.place p) two.at
         (at-before code g s a one.place (λ p. same_row p (before_at code g b)) one.at r) in

@@ -15,7 +15,7 @@ use Rattle.flow_graph.specs.Meaning.{Moved, arrays_compared, both, compared, fir
 use Rattle.flow_graph.specs.States as graph
 use Rattle.flow_graph.specs.States.{active_of, array_at, flow_at, number_at, value_at}
 use Rattle.flow_graph.proofs.Values.{number-is}
-use Rattle.ia32_rows.specs.Follows.{Follows}
+use Rattle.ia32_laws.proofs.Landing.{FollowsKept, followed}
 use Rattle.ia32_rows.specs.Placements.{Code, placement_of}
 use Rattle.ia32_laws.specs.Supports.{site_of}
 use Rattle.ia32_laws.specs.KeepsOps.{before_at}
@@ -37,6 +37,7 @@ flag-low code g frames false = (record { sfits = omega arith }, refl)
 
 pub numbers-set-follow : NumbersSetFollow
 numbers-set-follow how d a b code input g s x y supported state shown has a_is b_is r =
+    followed code input g s (op.Set how d a b) false supported state has (
     let o : Op = op.Set how d a b in
     let fits = (op-is code g o supported state has).fits in
     let here = point-supported code g o supported state has in
@@ -62,7 +63,7 @@ numbers-set-follow how d a b code input g s x y supported state shown has a_is b
     (arrays_compared how (array_at g a) (array_at g b))) b_is
     ∙ ap Some (sym same) in
     let go : Bool → Moved = λ c. sets code.program g d (Number (if c then pos 1 else pos 0)) in
-    subst (λ (v : Option Bool). Follows code input s g false (given v go)) (sym known)
+    subst (λ (v : Option Bool). FollowsKept code input s g false (given v go)) (sym known)
     (puts-follow code input g s o d (bit t) (Number (if t then pos 1 else pos 0)) place
     (setting how place one.place two.place) supported state shown has refl (λ next h. h)
     (at-before code g s b two.place (λ p. setting how place one.place p) two.at
@@ -72,4 +73,4 @@ numbers-set-follow how d a b code input g s x y supported state shown has a_is b
     two.place m n s framed four (holds-word place holds) for.inside one.holds one.inside two.holds two.inside
     one.contains two.contains (word-fits x one.fits) (word-fits y two.fits))
     (subst (λ (v : Option Width). IsLow code (active_of g) shown.frames v (Number (if t then pos 1 else pos 0)) (bit t))
-    (sym fits.0) (flag-low code g shown.frames t)) tt)
+    (sym fits.0) (flag-low code g shown.frames t)) tt))

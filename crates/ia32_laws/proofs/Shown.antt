@@ -1,7 +1,7 @@
 -- The next state is shown, where what is read is as before.
 use Rattle.std.proofs.Common.{◌≡◌, ◌≢◌, ◌⊎◌, ℕ, zero, suc, ◌+◌, ◌-◌, ◌*◌, ◌≤◌, ℤ, List, [], ◌∷◌, length, Some}
 use Rattle.std.proofs.Common.{Ok, inl, inr, refl, sym, ap, subst, ◌∙◌, arith}
-use Rattle.std.specs.Prelude.{map, slice_get, slice_set}
+use Rattle.std.specs.Prelude.{Option, drop, map, slice_get, slice_set}
 use Rattle.std.specs.List.{AllZip}
 use Rattle.std.proofs.lemmas.Option.{none-some, same_Some, slice_get_within}
 use Rattle.pcc_base.specs.Outcome.{Value}
@@ -11,15 +11,17 @@ use Rattle.ia32_insn.specs.State as machine
 use Rattle.ia32_insn.specs.Meaning.{load, word_of}
 use Rattle.ia32_insn.specs.Items.{data_start, stack_end}
 use Rattle.flow_graph.specs.declared.op.Op.{Op}
+use Rattle.flow_graph.specs.Graphs.{Stands}
 use Rattle.flow_graph.specs.Liveness.{defined}
 use Rattle.flow_graph.specs.States as graph
 use Rattle.flow_graph.specs.States.{Activation, Waiting, active_of, depth_of, flow_at, op_at, with_value}
 use Rattle.flow_graph.specs.WellFormed.{AreActivations, IsState}
 use Rattle.ia32_rows.specs.Placements.{Code, objects_of, placement_of}
 use Rattle.ia32_rows.specs.Shows.{AllStand, ArgumentsStand, ElementsStand, FrameArraysStand, HoldsOldArrays}
-use Rattle.ia32_rows.specs.Shows.{IsOldArray, ObjectsStand, Shows, StandsIn, WaitFrom, stack_bytes}
+use Rattle.ia32_rows.specs.Shows.{IsOldArray, ObjectsStand, ShowsIn, StandsIn, WaitFrom, stack_bytes}
 use Rattle.flow_graph.proofs.Lists.{zip-first}
-use Rattle.ia32_laws.specs.Supports.{IsSupported, Supports, SupportsPoint}
+use Rattle.ia32_rows.specs.Sites.{SoundAt}
+use Rattle.ia32_laws.specs.Supports.{IsSupported, SupportsPoint, site_of}
 use Rattle.ia32_laws.specs.Protected.{ChainReads, ElementReads, IsCallRead, IsProtected}
 use Rattle.ia32_laws.specs.KeepsLaws.{Arrives, MovedShows, SetShows, moved_to}
 use Rattle.ia32_laws.proofs.Memory.{shapes-are, text-is}
@@ -111,22 +113,45 @@ abbrev pub next_state : List Value → List (List ℤ) → List Waiting → List
 next_state variables arrays after objects h =
     record h { current = remade variables arrays h.current; waiting = after; objects = objects }
 
+-- The machine is sound, with the input and the output of this state, whose point is in its block.
+pub record Lands (code : Code) (input : List ℕ) (h : graph.State) (t : machine.State) : Type 0 where
+  pub placed : Stands (flow_at code.program h.current.function) h.point h.block
+  pub sound : SoundAt (site_of code h.current.function) t
+  pub left : t.left ≡ h.left
+  pub taken : t.taken ≡ h.taken
+  pub written : t.written ≡ h.written
+  pub of_input : t.left ≡ drop t.taken input
+
+-- so it does behind a row
+pub arrives-lands : (code : Code) (input : List ℕ) (g : graph.State) (t : machine.State) (block point : ℕ)
+    (left : List ℕ) (taken : ℕ) (written : List ℕ) → Arrives code input g (moved_to block point left taken written g) t
+    → Lands code input (moved_to block point left taken written g) t
+arrives-lands code input g t block point left taken written a =
+    record {
+      placed = a.placed;
+      sound = a.sound;
+      left = a.left;
+      taken = a.taken;
+      written = a.written;
+      of_input = a.of_input;
+    }
+
 -- It is shown where its variables, its arrays and its objects stand, and what is read of the calls is as before.
-pub next-shown : (code : Code) (input : List ℕ) (g : graph.State) (s t : machine.State) (block point : ℕ)
-    (left : List ℕ) (taken : ℕ) (written : List ℕ) (variables : List Value) (arrays : List (List ℤ))
-    (after : List Waiting) (objects : List (List ℤ)) → IsSupported code → IsState code.program g
-    → (shown : Shows code input g s) → HasArrays g.current.arrays arrays → AllZip IsWaitAlike g.waiting after
+pub next-shown : {places : ℕ → Option Place} {eip : ℕ} (code : Code) (input : List ℕ) (g : graph.State)
+    (s t : machine.State) (block point : ℕ) (left : List ℕ) (taken : ℕ) (written : List ℕ) (variables : List Value)
+    (arrays : List (List ℤ)) (after : List Waiting) (objects : List (List ℤ)) (new : ℕ → Option Place)
+    → IsSupported code → IsState code.program g → (shown : ShowsIn code input places eip g s)
+    → HasArrays g.current.arrays arrays → AllZip IsWaitAlike g.waiting after
     → word_of Esp t ≡ word_of Esp s → word_of Ebp t ≡ word_of Ebp s → Loads (IsCallRead code g shown.frames) s t
-    → Arrives code input g (moved_to block point left taken written g) t
+    → Lands code input (moved_to block point left taken written g) t
     → (let h : graph.State = next_state variables arrays after objects (moved_to block point left taken written g) in
-    AllStand code (active_of h) shown.frames t (word_of Ebp t) h.current
-    ((placement_of code g.current.function).before point)
+    AllStand code (active_of h) shown.frames t (word_of Ebp t) h.current new
     → ((i : ℕ) (a : Activation) → slice_get (active_of h) i ≡ Some a → HoldsOldArrays (depth_of g - i) a)
     → ObjectsStand code t objects
     → ((i : ℕ) (a : Activation) (frame : ℕ) → slice_get (active_of h) i ≡ Some a
     → slice_get shown.frames i ≡ Some frame → FrameArraysStand code t frame a)
-    → Shows code input h t)
-next-shown code input g s t block point left taken written variables arrays after objects supported state shown has
+    → ShowsIn code input new t.eip h t)
+next-shown code input g s t block point left taken written variables arrays after objects new supported state shown has
     waits esp ebp loads arrives stand old objects_stand arrays_stand =
     let h : graph.State = next_state variables arrays after objects (moved_to block point left taken written g) in
     let frames : List ℕ = shown.frames in
@@ -150,7 +175,7 @@ next-shown code input g s t block point left taken written variables arrays afte
       placed = arrives.placed;
       shapes = shapes-are code.text (objects_of code.program) t.memory sound.bytes sound.memory sound.size;
       text = text-is code.text t.memory (data_start code.text) sound.bytes sound.memory;
-      eip = arrives.eip;
+      eip = refl;
       esp = ap (λ (k : ℕ). k + (placement_of code g.current.function).frame) esp ∙ shown.esp ∙ sym ebp;
       room = subst (λ (k : ℕ). stack_end code.text (objects_of code.program) ≤ k + stack_bytes code (active_of h))
           (sym esp) (subst (λ (k : ℕ). stack_end code.text (objects_of code.program) ≤ word_of Esp s + k)
@@ -188,7 +213,8 @@ next-shown code input g s t block point left taken written variables arrays afte
 -- ---- where no array changes
 
 -- static objects
-objects-kept : (code : Code) (input : List ℕ) (g : graph.State) (s t : machine.State) → (shown : Shows code input g s)
+pub objects-kept : {places : ℕ → Option Place} {eip : ℕ} (code : Code) (input : List ℕ) (g : graph.State)
+    (s t : machine.State) → (shown : ShowsIn code input places eip g s)
     → Loads (IsProtected code g shown.frames) s t → ObjectsStand code t g.objects
 objects-kept code input g s t shown loads k elements e =
     let (object, address, declared, placed, stand) = shown.objects k elements e in (
@@ -209,7 +235,8 @@ objects-kept code input g s t shown loads k elements e =
     )
 
 -- arrays of a call
-arrays-kept : (code : Code) (input : List ℕ) (g : graph.State) (s t : machine.State) → (shown : Shows code input g s)
+pub arrays-kept : {places : ℕ → Option Place} {eip : ℕ} (code : Code) (input : List ℕ) (g : graph.State)
+    (s t : machine.State) → (shown : ShowsIn code input places eip g s)
     → Loads (IsProtected code g shown.frames) s t → (i : ℕ) (a : Activation) (frame : ℕ)
     → slice_get (active_of g) i ≡ Some a → slice_get shown.frames i ≡ Some frame → FrameArraysStand code t frame a
 arrays-kept code input g s t shown loads i a frame e f k elements has =
@@ -262,17 +289,17 @@ point-supported code g o supported state has =
 -- where all others are kept, no variable is set
 pub moved-shows : MovedShows
 moved-shows code input g s t o block point left taken written supported state shown has none keeps arrives =
-    let supports = supported.supports g.current.function state.active.0.function in
     let here = point-supported code g o supported state has in
     let alike : AreAlike (active_of g) (active_of g) = (
       record { function = refl; arguments = refl; arrays = λ k elements e. (elements, e) },
       alike-waits g.waiting g.waiting (same-waits g.waiting),
     ) in
     next-shown code input g s t block point left taken written g.current.variables g.current.arrays g.waiting g.objects
+    ((placement_of code g.current.function).after g.point)
     supported state shown (λ k elements e. (elements, e)) (same-waits g.waiting) keeps.esp keeps.ebp
-    (λ n a w reads. keeps.protected n a w (inl reads)) arrives
-    (λ v value place e f.
-    let behind = supports.along g.point point v place arrives.leads f in
+    (λ n a w reads. keeps.protected n a w (inl reads))
+    (arrives-lands code input g t block point left taken written arrives)
+    (λ v value place e behind.
     let stays = here.stays v place (λ d. none-some v (sym none ∙ d)) behind in
     subst (λ (base : ℕ). StandsIn code (active_of g) shown.frames t base
     (slice_get (flow_at code.program g.current.function).widths v) value place) (sym keeps.ebp)
@@ -325,11 +352,11 @@ pub set-shows : SetShows
 set-shows code input g s t o d value block point left taken written supported state shown has sets keeps stands old
     arrives =
     next-shown code input g s t block point left taken written variables g.current.arrays g.waiting g.objects
+    ((placement_of code g.current.function).after g.point)
     supported state shown (λ k elements e. (elements, e)) (same-waits g.waiting) keeps.esp keeps.ebp
-    (λ n a w reads. keeps.protected n a w (inl reads)) arrives
-    (λ v other place e f.
-    let behind = supports.along g.point point v place arrives.leads f in
-    each v other place behind (after-set g.current.variables d v value other e))
+    (λ n a w reads. keeps.protected n a w (inl reads))
+    (arrives-lands code input g t block point left taken written arrives)
+    (λ v other place e behind. each v other place behind (after-set g.current.variables d v value other e))
     (set-old g d value shown.old_arrays old)
     (objects-kept code input g s t shown keeps.protected)
     (current-kept code g t shown.frames variables (arrays-kept code input g s t shown keeps.protected))
@@ -339,9 +366,6 @@ set-shows code input g s t o d value block point left taken written supported st
 
     active : List Activation
     active = remade variables g.current.arrays g.current ∷ map (λ w. w.activation) g.waiting
-
-    supports : Supports (flow_at code.program g.current.function) (placement_of code g.current.function)
-    supports = supported.supports g.current.function state.active.0.function
 
     alike : AreAlike (active_of g) active
     alike = (

@@ -1,6 +1,6 @@
 -- Slots for all variables, apart from each other and from the frame arrays, support every graph.
 use Rattle.std.proofs.Common.{◌≡◌, ◌≢◌, ℕ, zero, suc, ◌<◌, List, [], ◌∷◌, length, Option, Some, None, inl, inr, refl}
-use Rattle.std.proofs.Common.{sym, ap, subst, arith}
+use Rattle.std.proofs.Common.{◌+◌, ◌≤◌, sym, ap, subst, ◌∙◌, arith}
 use Rattle.std.specs.Prelude.{option_map, slice_get}
 use Rattle.std.proofs.lemmas.Option.{none-some, same_Some}
 use Rattle.pcc_base.specs.declared.run.Width.{Width}
@@ -17,7 +17,9 @@ use Rattle.ia32_rows.specs.Rows.{AllApart, AreApart, IsSlot}
 use Rattle.flow_liveness.proofs.Placed.{op-fits}
 use Rattle.flow_liveness.proofs.Using.{used-within}
 use Rattle.ia32_rows.specs.Laws.{ArePlacesApart}
-use Rattle.ia32_laws.specs.Supports.{AreSlots, HoldsWidth, IsPlaceFor, IsSpared, IsSparedBy, SlotsSupport}
+use Rattle.ia32_rows.specs.Contains.{Contains}
+use Rattle.ia32_rows.proofs.Kept.{keeps-same}
+use Rattle.ia32_laws.specs.Supports.{AreSlots, HoldsWidth, IsPlaceFor, IsSpared, IsSparedBy, SlotsSupport, size_of}
 use Rattle.ia32_laws.specs.Supports.{SupportsPoint}
 
 -- ---- variables
@@ -139,8 +141,35 @@ slots-support flow homes frame arrays slots is h =
     record {
       four_words = h.four_words;
       words = h.words;
+      below_registers = omega arith;
+      zeroed_words = omega arith;
       arrays = h.arrays_in;
+      cleared = λ k below array e f.
+          let low = (h.arrays_in.inside k below array e f).low in deep (size_of array) below low;
       points = λ point o placed has. slots-point flow homes frame arrays slots point o is h placed has;
-      begins = λ point v place first e. let found = slot-of slots v place e in (found.0, sym found.2);
-      along = λ point next v place leads e. e;
+      begins = λ point v place first e.
+          let found = slot-of slots v place e in
+          (found.0, sym found.2, down found.0 (all-at (IsSlot frame) slots v found.0 h.within found.1).low);
+      moves = λ point next leads. record {
+        few = omega arith;
+        straight = tt;
+        spelled = tt;
+        copies = λ site s framed held. (
+          s,
+          refl,
+          framed,
+          record {
+            moved = λ v w width old new has from to fits contains.
+                subst (λ (place : Place). Contains s width place w) (same_Some old new (sym from ∙ to)) contains;
+            keeps = keeps-same _ _ s;
+          },
+        );
+      };
+      stood = λ point next v place leads e. (place, e);
     }
+  where
+    deep : (size below : ℕ) → 16 + size ≤ below → 12 + size ≤ below
+    deep size below h = omega arith
+
+    down : (slot : ℕ) → 20 ≤ slot → 12 + 4 ≤ slot
+    down slot h = omega arith

@@ -56,7 +56,7 @@ pub blocks-stand : BlocksStand
 blocks-stand code g start block stands below =
     let flow : Flow = flow_at code.program g.current.function in
     let placement : Placement = placement_of code g.current.function in
-    let first : List Item = prologue placement.frame (entry_label flow) in
+    let first : List Item = prologue placement.frame placement.zeroed (entry_label flow) in
     let numbers : List Item = headers flow.arrays placement.arrays in
     let parted = parted-at flow placement 0 block block flow.blocks below
     (let e : block ≡ 0 + block = omega arith in e) in

@@ -30,7 +30,8 @@ use Rattle.flow_graph.specs.States as graph
 use Rattle.flow_graph.specs.States.{active_of, flow_at, number_of, op_at, value_at}
 use Rattle.flow_graph.specs.WellFormed.{IsState}
 use Rattle.flow_graph.proofs.Numbers.{quotient-fits, remainder-fits}
-use Rattle.ia32_rows.specs.Follows.{ComesToEnd, Follows}
+use Rattle.ia32_rows.specs.Follows.{ComesToEnd}
+use Rattle.ia32_laws.proofs.Landing.{FollowsKept, followed}
 use Rattle.ia32_rows.specs.Paths.{Comes, IsAt, IsClear}
 use Rattle.ia32_rows.specs.Placements.{Code, placement_of}
 use Rattle.ia32_rows.specs.Shows.{Shows}
@@ -47,7 +48,8 @@ use Rattle.ia32_laws.specs.Supports.{IsSpared, IsSupported, site_of}
 use Rattle.ia32_laws.specs.KeepsOps.{RowAt, after_at, before_at}
 use Rattle.ia32_laws.proofs.Shown.{point-supported}
 use Rattle.ia32_laws.proofs.Zones.{shown-in-frame}
-use Rattle.ia32_laws.proofs.Puts.{IsLow, at-own-address}
+use Rattle.ia32_laws.proofs.Puts.{IsLow}
+use Rattle.ia32_laws.proofs.Elsewhere.{at-own-address}
 use Rattle.ia32_laws.proofs.Words.{word-fits}
 use Rattle.ia32_laws.proofs.Ops.{at-after, at-before, given-number, has-number, op-is}
 use Rattle.ia32_rows.specs.Rows.{before_division, dividing, divisor_of}
@@ -168,19 +170,19 @@ division-follows : (part : Reg32) (f : ℤ → ℤ → ℤ) (o : Op) (d a b : �
     → HasWidth (flow_at code.program g.current.function) b Two → IsSupported code → IsState code.program g
     → Shows code input g s → op_at code.program g ≡ Some o
     → RowAt code g (dividing part (after_at code g d) (before_at code g a) (before_at code g b)) s
-    → Follows code input s g false (given (number_of (value_at g a)) (λ x. given (number_of (value_at g b))
+    → FollowsKept code input s g false (given (number_of (value_at g a)) (λ x. given (number_of (value_at g b))
     (λ y. if no_quotient x y then Halts (Trapped Divide) else sets code.program g d (Number (f x y)))))
 division-follows part f o d a b code input g s puts fits_f spares sets_d reads_a reads_b leads wd wa wb supported state
     shown has r =
-    given-number (Follows code input s g false) (value_at g a) (λ x. given (number_of (value_at g b))
+    given-number (FollowsKept code input s g false) (value_at g a) (λ x. given (number_of (value_at g b))
     (λ y. if no_quotient x y then Halts (Trapped Divide) else sets code.program g d (Number (f x y)))) tt (λ x e.
-    given-number (Follows code input s g false) (value_at g b)
+    given-number (FollowsKept code input s g false) (value_at g b)
     (λ y. if no_quotient x y then Halts (Trapped Divide) else sets code.program g d (Number (f x y))) tt
     (λ y k. both-ways x y e k (no_quotient x y) refl))
   where
     both-ways : (x y : ℤ) → value_at g a ≡ Some (Number x) → value_at g b ≡ Some (Number y) → (t : Bool)
         → no_quotient x y ≡ t
-        → Follows code input s g false
+        → FollowsKept code input s g false
         (if t then Halts (Trapped Divide) else sets code.program g d (Number (f x y)))
     both-ways x y e k true is =
         let here = point-supported code g o supported state has in
@@ -216,14 +218,16 @@ division-follows part f o d a b code input g s puts fits_f spares sets_d reads_a
 
 pub quotient-follows : QuotientFollows
 quotient-follows d a b code input g s supported state shown has r =
+    followed code input g s (op.Div d a b) false supported state has (
     let fits = (op-is code g (op.Div d a b) supported state has).fits in
     division-follows Eax int_div (op.Div d a b) d a b code input g s quotient-part quotient-fits
     (division-spares (op.Div d a b) (λ q h. h)) refl (inl refl) (inr (inl refl)) (λ next h. h) fits.0 fits.1.0
-    fits.1.1.0 supported state shown has r
+    fits.1.1.0 supported state shown has r)
 
 pub remainder-follows : RemainderFollows
 remainder-follows d a b code input g s supported state shown has r =
+    followed code input g s (op.Rem d a b) false supported state has (
     let fits = (op-is code g (op.Rem d a b) supported state has).fits in
     division-follows Edx int_rem (op.Rem d a b) d a b code input g s remainder-part
     (λ x y h e. remainder-fits x y h) (division-spares (op.Rem d a b) (λ q h. h)) refl (inl refl) (inr (inl refl))
-    (λ next h. h) fits.0 fits.1.0 fits.1.1.0 supported state shown has r
+    (λ next h. h) fits.0 fits.1.0 fits.1.1.0 supported state shown has r)

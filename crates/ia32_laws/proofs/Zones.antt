@@ -1,13 +1,13 @@
 -- Where frames and what is read of them stand, above each other on the stack, and the data below them.
 use Rattle.std.proofs.Common.{◌≡◌, ◌⊎◌, ℕ, zero, suc, ◌+◌, ◌-◌, ◌*◌, ◌<◌, ◌≤◌, List, [], ◌∷◌, length, Some}
-use Rattle.std.proofs.Common.{Ok, inl, inr, refl, sym, ap, subst, ◌∙◌, arith}
+use Rattle.std.proofs.Common.{Ok, Option, inl, inr, refl, sym, ap, subst, ◌∙◌, arith}
 use Rattle.std.specs.Prelude.{map, max, slice_get}
 use Rattle.std.proofs.Math.Nat.{le-max_left, le-max_right}
 use Rattle.std.proofs.lemmas.Option.{none-some, same_Some, slice_get_within}
 use Rattle.std.proofs.lemmas.List.{length-map}
 use Rattle.pcc_base.specs.Objects.{Object}
 use Rattle.ia32_insn.specs.declared.register_names.Reg32.TheVariants.{Esp, Ebp}
-use Rattle.ia32_insn.specs.Places.{InSlot}
+use Rattle.ia32_insn.specs.Places.{Place, InSlot}
 use Rattle.ia32_insn.specs.State as machine
 use Rattle.ia32_insn.specs.Meaning.{load, word_of}
 use Rattle.ia32_insn.specs.Items.{data_bytes, data_start, round_up, stack_end}
@@ -19,13 +19,13 @@ use Rattle.flow_graph.specs.States.{Activation, Waiting, active_of, flow_at}
 use Rattle.flow_graph.specs.WellFormed.{AreActivations, AreWaiting, IsActivation, IsState}
 use Rattle.flow_graph.specs.WellFormed.{IsWaiting}
 use Rattle.ia32_rows.specs.Placements.{Code, objects_of, placement_of}
-use Rattle.ia32_rows.specs.Shows.{Shows, WaitFrom, stack_bytes}
+use Rattle.ia32_rows.specs.Shows.{ShowsIn, WaitFrom, stack_bytes}
 use Rattle.ia32_rows.specs.Sites.{IsSound}
 use Rattle.ia32_rows.proofs.Sound.{load-place}
 use Rattle.ia32_laws.specs.Supports.{IsPlaceFor, IsSupported, Supports}
 use Rattle.ia32_laws.specs.Protected.{ArgumentReads, ChainReads}
 use Rattle.ia32_laws.specs.Protected.{SlotReads}
-use Rattle.ia32_laws.specs.KeepsLaws.{ShownInFrame, data_end}
+use Rattle.ia32_laws.specs.KeepsLaws.{InFrame, ShownInFrame, data_end}
 use Rattle.ia32_laws.proofs.Memory.{areas-are, text-above}
 use Rattle.ia32_laws.proofs.Chain.{WaitsSupported}
 use Rattle.ia32_laws.proofs.Shown.{waits-supported}
@@ -94,8 +94,9 @@ returns-at code active frames s younger frame [] (k ∷ older) h = absurd h
 returns-at code active frames s younger frame (w ∷ waiting) [] h = absurd h
 returns-at code active frames s younger frame (w ∷ waiting) (k ∷ older) h = (h.0.return_address, h.0.returns)
 
-pub bounds : (code : Code) (input : List ℕ) (g : graph.State) (s : machine.State) → IsSupported code
-    → IsState code.program g → Shows code input g s → Bounds code g s
+pub bounds : {places : ℕ → Option Place} {eip : ℕ}
+    (code : Code) (input : List ℕ) (g : graph.State) (s : machine.State) → IsSupported code
+    → IsState code.program g → ShowsIn code input places eip g s → Bounds code g s
 bounds code input g s h state shown =
     let objects : List Object = objects_of code.program in
     let areas = areas-are code.text objects s.memory shown.shapes shown.text in
@@ -138,8 +139,11 @@ bounds code input g s h state shown =
     ended : (ebp high : ℕ) → ebp + 4 + 4 ≤ high → ebp + 8 ≤ high
     ended ebp high h = omega arith
 
-pub shown-in-frame : ShownInFrame
-shown-in-frame code input g s h state shown =
+-- so it is wherever variables stand
+pub in-frame : {places : ℕ → Option Place} {eip : ℕ} (code : Code) (input : List ℕ) (g : graph.State)
+    (s : machine.State) → IsSupported code → IsState code.program g → ShowsIn code input places eip g s
+    → InFrame code g s
+in-frame code input g s h state shown =
     let b = bounds code input g s h state shown in
     record {
       framed = record {
@@ -153,6 +157,9 @@ shown-in-frame code input g s h state shown =
   where
     enough : (low bytes esp : ℕ) → low + bytes + 0x1000 ≤ esp → low + 4 ≤ esp
     enough low bytes esp room = omega arith
+
+pub shown-in-frame : ShownInFrame
+shown-in-frame code input g s h state shown = in-frame code input g s h state shown
 
 -- ---- zones
 
@@ -216,8 +223,10 @@ pub record IsCallAt (g : graph.State) (frames : List ℕ) (i : ℕ) (a : Activat
   pub at_frame : slice_get frames i ≡ Some f
 
 -- an older call is above a younger one
-pub calls-above : (code : Code) (input : List ℕ) (g : graph.State) (s : machine.State) (i j : ℕ) (a b : Activation)
-    (e f : ℕ) → (shown : Shows code input g s) → i < j → IsCallAt g shown.frames i a e → IsCallAt g shown.frames j b f
+pub calls-above : {places : ℕ → Option Place} {eip : ℕ}
+    (code : Code) (input : List ℕ) (g : graph.State) (s : machine.State) (i j : ℕ) (a b : Activation)
+    (e f : ℕ) → (shown : ShowsIn code input places eip g s) → i < j → IsCallAt g shown.frames i a e
+    → IsCallAt g shown.frames j b f
     → e + 8 + 4 * length a.arguments + frame_size code b ≤ f
 calls-above code input g s i j a b e f shown lt one two =
     zones-above code (active_of g) shown.frames s g.current
@@ -227,8 +236,10 @@ calls-above code input g s i j a b e f shown lt one two =
     (subst (λ (fs : List ℕ). slice_get fs j ≡ Some f) shown.youngest two.at_frame)
 
 -- the youngest is the current one, at EBP
-pub youngest-is : (code : Code) (input : List ℕ) (g : graph.State) (s : machine.State) (a : Activation) (f : ℕ)
-    → (shown : Shows code input g s) → IsCallAt g shown.frames 0 a f → (g.current ≡ a) × (word_of Ebp s ≡ f)
+pub youngest-is : {places : ℕ → Option Place} {eip : ℕ}
+    (code : Code) (input : List ℕ) (g : graph.State) (s : machine.State) (a : Activation) (f : ℕ)
+    → (shown : ShowsIn code input places eip g s) → IsCallAt g shown.frames 0 a f
+    → (g.current ≡ a) × (word_of Ebp s ≡ f)
 youngest-is code input g s a f shown h = (
   same_Some g.current a h.is_active,
   same_Some (word_of Ebp s) f (subst (λ (fs : List ℕ). slice_get fs 0 ≡ Some f) shown.youngest h.at_frame),
@@ -361,8 +372,9 @@ chain-read code frame younger (w ∷ waiting) (o ∷ older) a n supports waits (
     (chain-read code o w.activation waiting older a n supports.1 waits.1 h)
 
 -- so the chain of a state does,
-pub chain-read-of : (code : Code) (input : List ℕ) (g : graph.State) (s : machine.State) (a n : ℕ) → IsSupported code
-    → IsState code.program g → (shown : Shows code input g s) → ChainReads code shown.frames g.waiting a n
+pub chain-read-of : {places : ℕ → Option Place} {eip : ℕ}
+    (code : Code) (input : List ℕ) (g : graph.State) (s : machine.State) (a n : ℕ) → IsSupported code
+    → IsState code.program g → (shown : ShowsIn code input places eip g s) → ChainReads code shown.frames g.waiting a n
     → IsReadOf code g shown.frames a n
 chain-read-of code input g s a n supported state shown reads =
     let here : ChainReads code (word_of Ebp s ∷ shown.older) g.waiting a n =

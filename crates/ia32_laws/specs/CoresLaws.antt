@@ -1,5 +1,5 @@
 -- The laws of these rows, over places of any kind.
-use Rattle.std.specs.Prelude.{◌≡◌, ◌≢◌, ◌+◌, ◌-◌, ◌*◌, ◌%◌, ◌^◌, ◌<◌, ◌≤◌, ◌∷◌, ◌++◌, ℕ, List, Some, None, Ok}
+use Rattle.std.specs.Prelude.{◌≡◌, ◌≢◌, ◌+◌, ◌-◌, ◌*◌, ◌%◌, ◌^◌, ◌<◌, ◌≤◌, ◌⊎◌, [], ◌∷◌, ◌++◌, ℕ, List, Some, None, Ok}
 use Rattle.std.specs.Prelude.{Err, if◌then◌else◌}
 use Rattle.pcc_base.specs.Outcome.{Trapped}
 use Rattle.pcc_base.specs.declared.run.Trap.TheVariants.{Divide}
@@ -22,7 +22,7 @@ use Rattle.flow_graph.specs.Meaning.{compared}
 use Rattle.ia32_rows.specs.Paths.{Comes}
 use Rattle.ia32_rows.specs.Sites.{Anywhere, Framed, ReadyAt, Site, SoundAt, StandsFrom}
 use Rattle.ia32_rows.specs.Rows.{before_division, branching, comparing, dividing, divisor_of, halving, lowering}
-use Rattle.ia32_rows.specs.Rows.{pass, setting, shifting}
+use Rattle.ia32_rows.specs.Rows.{jumping, pass, setting, shifting}
 use Rattle.ia32_rows.specs.Effects.{Keeps, Leads, OutsideWord}
 use Rattle.ia32_rows.specs.Contains.{ApartFromPlace, Contains, HoldsWord, IsPlaceIn, Untouched}
 use Rattle.ia32_rows.specs.Laws.{HoldsLow, Puts}
@@ -88,17 +88,26 @@ SetPuts =
     → IsPlaceIn frame r → Contains s Two q x → Contains s Two r y → x < 2 ^ 32 → y < 2 ^ 32
     → (u : State) × Puts site frame (setting how p q r) p (bit (compared how (signed x) (signed y))) s u
 
--- a branch leads to what stands behind the label that the comparison of the signed numbers chooses
+-- The items at EIP lead to what stands behind a label: they are moves and a jump there, or, where there is nothing to
+-- move, it stands here itself.
+abbrev pub IsOnTheWay : Site → List Item → ℕ → List Item → State → Type 0
+IsOnTheWay site moves label back s =
+    ((more : List Item) × ReadyAt site (jumping moves label ++ more) s) ⊎ ((moves ≡ []) × ReadyAt site back s)
+
+-- a branch comes on the way to what stands behind the label that the comparison of the signed numbers chooses
 abbrev pub BranchGoes : Type 0
 BranchGoes =
-    (site : Site) (frame : ℕ) (how : Comparison) (q r : Place) (taken other x y : ℕ) (s : State) (address : ℕ)
-    (front back rest : List Item) (start : ℕ) → Framed site frame s → HoldsWord q → IsPlaceIn frame q → HoldsWord r
+    (site : Site) (frame : ℕ) (how : Comparison) (detour : ℕ) (q r : Place) (to_taken to_other : List Item)
+    (taken other x y : ℕ) (s : State) (address : ℕ) (front back rest : List Item) (start : ℕ)
+    → Framed site frame s → HoldsWord q → IsPlaceIn frame q → HoldsWord r
     → IsPlaceIn frame r → Contains s Two q x → Contains s Two r y → x < 2 ^ 32 → y < 2 ^ 32
-    → ReadyAt site (branching how q r taken other ++ rest) (at_address address s)
+    → ReadyAt site (branching how detour q r to_taken to_other taken other ++ rest) (at_address address s)
     → StandsFrom site
     (front ++ (item.Label (if compared how (signed x) (signed y) then taken else other) ∷ back)) start
     → (u : State) × Framed site frame u × Keeps (OutsideWord Esi) Anywhere s u
-    × (after : ℕ) × Comes site.text (at_address address s) (at_address after u) × ReadyAt site back (at_address after u)
+    × (after : ℕ) × Comes site.text (at_address address s) (at_address after u)
+    × IsOnTheWay site (if compared how (signed x) (signed y) then to_taken else to_other)
+    (if compared how (signed x) (signed y) then taken else other) back (at_address after u)
 
 -- ---- divisions
 

@@ -5,18 +5,18 @@ use Rattle.ia32_insn.specs.declared.item.Item.TheVariants as item
 use Rattle.ia32_insn.specs.State as machine
 use Rattle.flow_graph.specs.declared.op.Comparison.{Comparison}
 use Rattle.flow_graph.specs.declared.op.Op.TheVariants as op
+use Rattle.flow_graph.specs.Graphs.{Flow}
 use Rattle.flow_graph.specs.Meaning.{act}
 use Rattle.flow_graph.specs.States as graph
 use Rattle.flow_graph.specs.States.{entry_of, flow_at, number_at, op_at}
 use Rattle.flow_graph.specs.WellFormed.{IsState}
 use Rattle.ia32_rows.specs.Follows.{Follows}
-use Rattle.ia32_rows.specs.Placements.{Code, placement_of}
+use Rattle.ia32_rows.specs.Placements.{Code, Placement, placement_of}
 use Rattle.ia32_rows.specs.Shows.{Shows}
 use Rattle.ia32_rows.specs.Sites.{ReadyAt, StandsFrom}
-use Rattle.ia32_rows.specs.Rows.{selected}
+use Rattle.ia32_rows.specs.Rows.{branching, jumping, loop_label, moves_into, selected, setting}
 use Rattle.ia32_laws.specs.Supports.{IsSupported, site_of}
 use Rattle.ia32_laws.specs.KeepsOps.{RowAt, RowFollows, after_at, before_at}
-use Rattle.ia32_rows.specs.Rows.{branching, jumping, setting}
 
 -- the low byte of a number, and its low 16 bits
 abbrev pub LowFollows : Type 0
@@ -57,6 +57,14 @@ pub record BlockAt (code : Code) (g : graph.State) (block : ℕ) : Type 0 where
   pub begins : (q : ℕ) → entry_of code.program g.current.function block ≡ Some q
       → (more : List Item) × (back ≡ item.Point q ∷ more)
 
+-- the items of a branch on two variables of the current call, at the state's point
+abbrev pub branch_at : Comparison → ℕ → ℕ → ℕ → ℕ → Code → graph.State → List Item
+branch_at how a b first second code g =
+    let flow : Flow = flow_at code.program g.current.function in
+    let placement : Placement = placement_of code g.current.function in
+    branching how (loop_label flow g.point) (before_at code g a) (before_at code g b)
+    (moves_into flow placement g.point first) (moves_into flow placement g.point second) first second
+
 -- a branch on a comparison of two numbers
 abbrev pub NumbersBranchFollow : Type 0
 NumbersBranchFollow =
@@ -65,7 +73,7 @@ NumbersBranchFollow =
     → op_at code.program g ≡ Some (op.Branch how a b first second) → number_at g a ≡ Some x → number_at g b ≡ Some y
     → BlockAt code g first → BlockAt code g second
     → ReadyAt (site_of code g.current.function)
-    (branching how (before_at code g a) (before_at code g b) first second ++ rest) s
+    (branch_at how a b first second code g ++ rest) s
     → Follows code input s g false (act code.program g (op.Branch how a b first second))
 
 -- a jump
@@ -73,7 +81,9 @@ abbrev pub JumpFollows : Type 0
 JumpFollows =
     (block : ℕ) (code : Code) (input : List ℕ) (g : graph.State) (s : machine.State) (rest : List Item)
     → IsSupported code → IsState code.program g → Shows code input g s → op_at code.program g ≡ Some (op.Jump block)
-    → BlockAt code g block → ReadyAt (site_of code g.current.function) (jumping block ++ rest) s
+    → BlockAt code g block → ReadyAt (site_of code g.current.function)
+    (jumping (moves_into (flow_at code.program g.current.function) (placement_of code g.current.function) g.point block)
+    block ++ rest) s
     → Follows code input s g false (act code.program g (op.Jump block))
 
 -- Where the items of a graph over its placement stand in the text, each of its blocks stands so.

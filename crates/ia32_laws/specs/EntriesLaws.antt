@@ -21,7 +21,7 @@ pub record EntryAt (code : Code) (g : graph.State) (s : machine.State) : Type 0 
   pub label : ℕ
   pub rest : List Item
   pub ready : ReadyAt (site_of code g.current.function)
-      (prologue (placement_of code g.current.function).frame label
+      (prologue (placement_of code g.current.function).frame (placement_of code g.current.function).zeroed label
       ++ (headers (flow_at code.program g.current.function).arrays (placement_of code g.current.function).arrays
       ++ (item.Label 0 ∷ item.Point g.point ∷ rest))) s
 

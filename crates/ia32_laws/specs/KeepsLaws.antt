@@ -15,11 +15,13 @@ use Rattle.flow_graph.specs.Liveness.{IsSuccessor, defined}
 use Rattle.flow_graph.specs.States as graph
 use Rattle.flow_graph.specs.States.{active_of, depth_of, elements_of, flow_at, op_at, with_array, with_value}
 use Rattle.flow_graph.specs.WellFormed.{IsState}
-use Rattle.ia32_rows.specs.Placements.{Code, objects_of, placement_of, point_address}
+use Rattle.ia32_rows.specs.Placements.{Code, objects_of, placement_of}
 use Rattle.ia32_rows.specs.Shows.{ElementsStand, IsArrayAt, IsOldArray, Shows, StandsIn}
 use Rattle.ia32_rows.specs.Sites.{Framed, SoundAt}
+use Rattle.ia32_rows.specs.Rows.{scratch}
 use Rattle.ia32_rows.specs.Contains.{ApartFromPlace}
 use Rattle.ia32_laws.specs.Supports.{IsPlaceFor, IsSupported, site_of, size_of}
+use Rattle.ia32_laws.specs.MovesLaws.{ShowsBehind}
 use Rattle.ia32_laws.specs.Protected.{IsProtected, KeepsShown}
 
 -- ---- where a state is shown
@@ -42,12 +44,13 @@ ShownInFrame =
 -- ---- what is protected
 
 -- Nothing that is protected is below ESP, but for the static data; and no place for a variable of the current call has
--- a byte of it.
+-- a byte of it, nor has the frame's word of scratch.
 pub record IsApart (code : Code) (g : graph.State) (s : machine.State) (a n : ℕ) : Type 0 where
   pub above : (word_of Esp s ≤ a) ⊎ (a + n ≤ data_end code)
   pub places : (v : ℕ) (place : Place)
       → IsPlaceFor (flow_at code.program g.current.function) (placement_of code g.current.function) v place
       → ApartFromPlace (word_of Ebp s) place a n
+  pub scratch : AreDisjoint (word_of Ebp s - scratch) 4 a n
 
 abbrev pub ProtectedIsApart : Type 0
 ProtectedIsApart =
@@ -76,28 +79,29 @@ abbrev pub moved_to : ℕ → ℕ → List ℕ → ℕ → List ℕ → graph.St
 moved_to block point left taken written g =
     record g { block = block; point = point; left = left; taken = taken; written = written }
 
--- The machine is at a next point of the current function, with the input and the output of this state.
+-- The machine is behind the op's row, with the input and the output of this state, which is at a next point of the
+-- current function.
 pub record Arrives (code : Code) (input : List ℕ) (g h : graph.State) (t : machine.State) : Type 0 where
   pub leads : IsSuccessor (flow_at code.program g.current.function) g.point h.point
   pub placed : Stands (flow_at code.program g.current.function) h.point h.block
   pub sound : SoundAt (site_of code g.current.function) t
-  pub eip : t.eip ≡ point_address code g.current.function h.point
   pub left : t.left ≡ h.left
   pub taken : t.taken ≡ h.taken
   pub written : t.written ≡ h.written
   pub of_input : t.left ≡ drop t.taken input
 
--- Where the op sets no variable, the next state is shown once all that is protected and all places are kept.
+-- Where the op sets no variable, the next state is shown behind the row once all that is protected and all places are
+-- kept.
 abbrev pub MovedShows : Type 0
 MovedShows =
     (code : Code) (input : List ℕ) (g : graph.State) (s t : machine.State) (o : Op) (block point : ℕ) (left : List ℕ)
     (taken : ℕ) (written : List ℕ) → IsSupported code → IsState code.program g → (shown : Shows code input g s)
     → op_at code.program g ≡ Some o → defined o ≡ None → KeepsShown code g shown.frames None s t
     → Arrives code input g (moved_to block point left taken written g) t
-    → Shows code input (moved_to block point left taken written g) t
+    → ShowsBehind code input g.point (moved_to block point left taken written g) t
 
--- Where it sets one, the next state is shown once the variable stands in its place, and all that is protected and all
--- other places are kept.
+-- Where it sets one, the next state is shown there once the variable stands in its place, and all that is protected and
+-- all other places are kept.
 abbrev pub SetShows : Type 0
 SetShows =
     (code : Code) (input : List ℕ) (g : graph.State) (s t : machine.State) (o : Op) (d : ℕ) (value : Value)
@@ -109,7 +113,7 @@ SetShows =
     (slice_get (flow_at code.program g.current.function).widths d) value place)
     → IsOldArray (depth_of g) value
     → Arrives code input g (moved_to block point left taken written g) t
-    → Shows code input (with_value d value (moved_to block point left taken written g)) t
+    → ShowsBehind code input g.point (with_value d value (moved_to block point left taken written g)) t
 
 -- ---- an array changes
 
@@ -139,7 +143,7 @@ ArrayShows =
     → IsArrayAt code (active_of g) shown.frames array address
     → KeepsOutside code g address (width * length elements) s t → ElementsStand t address width new
     → Arrives code input g (moved_to block point left taken written g) t
-    → Shows code input (with_array array new (moved_to block point left taken written g)) t
+    → ShowsBehind code input g.point (with_array array new (moved_to block point left taken written g)) t
 
 -- Where an array of the current call does, all of its last word may change with it.
 abbrev pub OwnArrayShows : Type 0
@@ -153,7 +157,7 @@ OwnArrayShows =
     → KeepsOutside code g (word_of Ebp s - distance) (size_of array) s t
     → ElementsStand t (word_of Ebp s - distance) array.0 new
     → Arrives code input g (moved_to block point left taken written g) t
-    → Shows code input
+    → ShowsBehind code input g.point
     (with_array (FrameArray k (depth_of g)) new (moved_to block point left taken written g)) t
 
 -- Where one element is stored, it is shown once that stands in its place, and all outside its bytes is kept.
@@ -167,4 +171,5 @@ ElementShows =
     → KeepsOutside code g (address + width * i) width s t
     → load width (address + width * i) t ≡ Ok (cast_unsigned w32 z % 2 ^ (8 * width))
     → Arrives code input g (moved_to block point left taken written g) t
-    → Shows code input (with_array array (slice_set elements i z) (moved_to block point left taken written g)) t
+    → ShowsBehind code input g.point
+    (with_array array (slice_set elements i z) (moved_to block point left taken written g)) t

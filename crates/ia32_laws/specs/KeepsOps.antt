@@ -14,7 +14,7 @@ use Rattle.ia32_rows.specs.Follows.{Follows, is_nop}
 use Rattle.ia32_rows.specs.Placements.{Code, placement_of}
 use Rattle.ia32_rows.specs.Shows.{Shows}
 use Rattle.ia32_rows.specs.Sites.{ReadyAt}
-use Rattle.ia32_rows.specs.Rows.{place_after, place_before, row}
+use Rattle.ia32_rows.specs.Rows.{moves_to, place_after, place_before, row}
 use Rattle.ia32_laws.specs.Supports.{IsSupported, site_of}
 
 -- where variables of the current call stand before and after the state's point
@@ -24,12 +24,14 @@ before_at code g v = place_before (placement_of code g.current.function) g.point
 abbrev pub after_at : Code → graph.State → ℕ → Place
 after_at code g v = place_after (placement_of code g.current.function) g.point v
 
--- These items are ready at EIP, and behind them the next point of the block, if there is one.
+-- These items are ready at EIP, and behind them the moves to the next point of the block, and that point, if there is
+-- one.
 pub record RowAt (code : Code) (g : graph.State) (items : List Item) (s : machine.State) : Type 0 where
   pub rest : List Item
   pub ready : ReadyAt (site_of code g.current.function) (items ++ rest) s
   pub follows : (q : ℕ) → point_after code.program g.current.function g.block g.point ≡ Some q
-      → (more : List Item) × (rest ≡ item.Point q ∷ more)
+      → (more : List Item)
+      × (rest ≡ moves_to (placement_of code g.current.function) g.point (Some q) ++ item.Point q ∷ more)
 
 -- From every state that shows one at this op the machine follows the op's step through such items.
 abbrev pub ItemsFollow : Op → (Code → graph.State → List Item) → Type 0

@@ -15,6 +15,8 @@ pub mod StartsLaws
 pub mod Supports
 pub mod Protected
 pub mod KeepsLaws
+pub mod MovesLaws
+pub mod MovesWorked
 pub mod KeepsOps
 pub mod Words
 pub mod CoresLaws

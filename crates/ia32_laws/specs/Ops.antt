@@ -13,10 +13,9 @@ use Rattle.ia32_rows.specs.Follows.{Follows}
 use Rattle.ia32_rows.specs.Placements.{Code}
 use Rattle.ia32_rows.specs.Shows.{Shows}
 use Rattle.ia32_rows.specs.Sites.{ReadyAt}
-use Rattle.ia32_rows.specs.Rows.{branching}
 use Rattle.ia32_laws.specs.Supports.{IsSupported, site_of}
-use Rattle.ia32_laws.specs.KeepsOps.{RowFollows, before_at}
-use Rattle.ia32_laws.specs.CoresOps.{BlockAt}
+use Rattle.ia32_laws.specs.KeepsOps.{RowFollows}
+use Rattle.ia32_laws.specs.CoresOps.{BlockAt, branch_at}
 
 abbrev pub SetFollows : Type 0
 SetFollows = (how : Comparison) (d a b : ℕ) → RowFollows (op.Set how d a b)
@@ -32,5 +31,5 @@ BranchFollows =
     (rest : List Item) → IsSupported code → IsState code.program g → Shows code input g s
     → op_at code.program g ≡ Some (op.Branch how a b first second) → BlockAt code g first → BlockAt code g second
     → ReadyAt (site_of code g.current.function)
-    (branching how (before_at code g a) (before_at code g b) first second ++ rest) s
+    (branch_at how a b first second code g ++ rest) s
     → Follows code input s g false (act code.program g (op.Branch how a b first second))

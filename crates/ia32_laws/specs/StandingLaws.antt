@@ -20,7 +20,8 @@ use Rattle.ia32_rows.specs.Paths.{IsAt, IsClear}
 use Rattle.ia32_rows.specs.Placements.{Code, IsCode, placement_of, point_address}
 use Rattle.ia32_rows.specs.Shows.{IsInside, ReturnsTo, Shows, StartReturns, start_of}
 use Rattle.ia32_rows.specs.Sites.{ReadyAt, Site, StandsFrom}
-use Rattle.ia32_rows.specs.Rows.{before_call, behind_call, entry_label, headers, place_after, place_before}
+use Rattle.ia32_rows.specs.Rows.{before_call, behind_call, entry_label, headers, moves_to, place_after}
+use Rattle.ia32_rows.specs.Rows.{place_before}
 use Rattle.ia32_rows.specs.Rows.{prologue, row, selected}
 use Rattle.ia32_laws.specs.Supports.{IsSupported, site_of}
 use Rattle.ia32_laws.specs.KeepsOps.{RowAt}
@@ -52,7 +53,7 @@ FunctionsStand =
 pub record EntryAt (code : Code) (f address point : ℕ) : Type 0 where
   pub more : List Item
   pub stands : StandsFrom (site_of code f)
-      (prologue (placement_of code f).frame (entry_label (flow_at code.program f))
+      (prologue (placement_of code f).frame (placement_of code f).zeroed (entry_label (flow_at code.program f))
       ++ (headers (flow_at code.program f).arrays (placement_of code f).arrays
       ++ (item.Label 0 ∷ item.Point point ∷ more))) address
 
@@ -74,13 +75,14 @@ StartsStand = (code : Code) (f : ℕ) → IsCode code → StartAt code f
 
 -- ---- points
 
--- At the address of a point the row of its op stands, and behind it the next point of the block, if there is one.
+-- At the address of a point the row of its op stands, and behind it the moves to the next point of the block, and that
+-- point, if there is one.
 pub record PointAt (code : Code) (f block point : ℕ) (o : Op) : Type 0 where
   pub rest : List Item
   pub stands : StandsFrom (site_of code f) (row (flow_at code.program f) (placement_of code f) point o ++ rest)
       (point_address code f point)
   pub follows : (q : ℕ) → point_after code.program f block point ≡ Some q
-      → (more : List Item) × (rest ≡ item.Point q ∷ more)
+      → (more : List Item) × (rest ≡ moves_to (placement_of code f) point (Some q) ++ item.Point q ∷ more)
 
 abbrev pub PointsStand : Type 0
 PointsStand =
@@ -169,13 +171,14 @@ CallsStand =
     → s.eip ≡ point_address code w.activation.function w.point
     → CallAt code w callee (places_before code w.activation.function w.point words) s
 
--- Where a call returns to stand the items behind it, and then the next point of the block.
+-- Where a call returns to stand the items behind it, and then the moves to the next point of the block, and that point.
 pub record BehindCall (code : Code) (w : Waiting) (result : Option ℕ) (words : List ℕ) (address : ℕ) : Type 0 where
   pub rest : List Item
   pub stands : StandsFrom (site_of code w.activation.function)
       (behind_call (place_behind code w.activation.function w.point result) (length words) ++ rest) address
   pub follows : (q : ℕ) → point_after code.program w.activation.function w.block w.point ≡ Some q
-      → (more : List Item) × (rest ≡ item.Point q ∷ more)
+      → (more : List Item)
+      × (rest ≡ moves_to (placement_of code w.activation.function) w.point (Some q) ++ item.Point q ∷ more)
 
 abbrev pub CallsReturn : Type 0
 CallsReturn =

@@ -1,5 +1,5 @@
--- Which placements a graph can have code over: where variables, frame arrays and their headers stand, and which places
--- stay from a point to the next.
+-- Which placements a graph can have code over: where variables, frame arrays and their headers stand, and how variables
+-- come from a point to the next.
 use Rattle.std.specs.Prelude.{◌≡◌, ◌≢◌, ◌<◌, ◌≤◌, ◌⊎◌, ◌+◌, ◌*◌, ◌%◌, ⊤, ℕ, List, length, slice_get}
 use Rattle.std.specs.Prelude.{slice_index_or, Option, Some, None}
 use Rattle.std.specs.List.{All, AllByRecursion}
@@ -8,6 +8,7 @@ use Rattle.pcc_base.specs.declared.run.Width.TheVariants.{One, Two}
 use Rattle.ia32_insn.specs.declared.register_names.Reg32.TheVariants.{Eax, Ecx, Edx}
 use Rattle.ia32_insn.specs.declared.register_names.Reg8.TheVariants.{Cl}
 use Rattle.ia32_insn.specs.Places.{Place, InWord, InByte, InSlot}
+use Rattle.ia32_insn.specs.Spelling.{HasSpelling}
 use Rattle.ia32_insn.specs.Items.{Places, data_start, stack_end}
 use Rattle.flow_graph.specs.declared.op.Op.{Op}
 use Rattle.flow_graph.specs.Graphs.{Flow, IsFlow, IsIn, IsPlaced}
@@ -21,6 +22,8 @@ use Rattle.ia32_rows.specs.Sites.{Site}
 use Rattle.ia32_rows.specs.Rows.{AllApart, IsSlot}
 pub use Rattle.ia32_rows.specs.Rows.{size_of}
 use Rattle.ia32_rows.specs.Contains.{IsPlaceIn}
+use Rattle.ia32_rows.specs.Copying.{Copies}
+use Rattle.ia32_rows.specs.Effects.{IsStraight}
 use Rattle.ia32_rows.specs.Laws.{ArePlacesApart}
 
 -- ---- frame arrays
@@ -113,19 +116,34 @@ pub record SupportsPoint (flow : Flow) (placement : Placement) (point : ℕ) (o 
   pub stays : (v : ℕ) (place : Place) → defined o ≢ Some v → placement.after point v ≡ Some place
       → (placement.before point v ≡ Some place) × IsSpared o place
 
--- The graph can have code over the placement. The frame has four words for the caller's registers and for scratch; what
--- stands anywhere before the first point stands in a slot, which is 0 there; and from a point to the next one, in a
--- block and along each edge, places stay.
+-- The instructions from a point to one that follows it: 24 at most, each of which goes on to the next and has a
+-- spelling. They bring each variable from its place after the first point to its place before the second.
+pub record AreMoves (flow : Flow) (placement : Placement) (point next : ℕ) : Type 0 where
+  pub few : length (placement.between point next) ≤ 24
+  pub straight : AllByRecursion IsStraight (placement.between point next)
+  pub spelled : AllByRecursion HasSpelling (placement.between point next)
+  pub copies : Copies flow placement point next
+
+-- The graph can have code over the placement. The frame has four words for the caller's registers and for scratch. The
+-- words that a function's first items make 0 are below those of the registers; the elements of the frame arrays are
+-- among them, and what stands anywhere before the first point stands in a slot among them. From a point to the next
+-- one, in a block and along each edge, variables are moved, and what has a place before the next one has one after the
+-- point.
 pub record Supports (flow : Flow) (placement : Placement) : Type 0 where
   pub four_words : 16 ≤ placement.frame
   pub words : placement.frame % 4 ≡ 0
+  pub below_registers : 12 ≤ placement.zeroed
+  pub zeroed_words : placement.zeroed % 4 ≡ 0
   pub arrays : AreArraysIn flow.arrays placement.frame placement.arrays
+  pub cleared : (k below : ℕ) (array : ℕ × ℕ) → slice_get flow.arrays k ≡ Some array
+      → slice_get placement.arrays k ≡ Some below → placement.zeroed + size_of array ≤ below
   pub points : (point : ℕ) (o : Op) → IsPlaced flow point → slice_get flow.ops point ≡ Some o
       → SupportsPoint flow placement point o
   pub begins : (point v : ℕ) (place : Place) → BeginsWith flow 0 point → placement.before point v ≡ Some place
-      → (slot : ℕ) × (place ≡ InSlot slot)
-  pub along : (point next v : ℕ) (place : Place) → IsSuccessor flow point next
-      → placement.before next v ≡ Some place → placement.after point v ≡ Some place
+      → (slot : ℕ) × (place ≡ InSlot slot) × (placement.zeroed + 4 ≤ slot)
+  pub moves : (point next : ℕ) → IsSuccessor flow point next → AreMoves flow placement point next
+  pub stood : (point next v : ℕ) (place : Place) → IsSuccessor flow point next → placement.before next v ≡ Some place
+      → (old : Place) × (placement.after point v ≡ Some old)
 
 -- ---- slots
 

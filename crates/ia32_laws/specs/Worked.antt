@@ -43,17 +43,21 @@ DivisionsAreRows =
     ≡ plain (insn.Mov (rm.Reg Esi) Eax) ∷ plain (insn.Mov (rm.Reg Eax) Ecx) ∷ plain insn.Cdq
     ∷ plain (insn.IDiv (rm.Reg Esi)) ∷ [])
 
--- Comparisons: one instruction before the condition, unless both words are in memory.
+-- Comparisons: one instruction before the condition, unless both words are in memory. A branch that moves something on
+-- the way that it takes leads to a label of its own.
 abbrev pub ComparisonsAreRows : Type 0
 ComparisonsAreRows =
     (setting Lt (InWord Ebx) (InWord Eax) (InSlot 20)
     ≡ plain (insn.AluLoad alu.Cmp Eax (below 20)) ∷ plain (insn.SetCc cond.L (rm8.Reg Bl))
     ∷ plain (insn.MovZx8 Ebx (rm8.Reg Bl)) ∷ [])
-    × (branching Ge (InSlot 20) (InWord Edx) 3 4
+    × (branching Ge 9 (InSlot 20) (InWord Edx) [] [] 3 4
     ≡ plain (insn.Alu alu.Cmp (rm.Mem (below 20)) Edx) ∷ item.JumpIf cond.Ge 3 ∷ item.JumpTo 4 ∷ [])
-    × (branching Lt (InSlot 20) (InSlot 24) 3 4
+    × (branching Lt 9 (InSlot 20) (InSlot 24) [] [] 3 4
     ≡ plain (insn.MovLoad Esi (below 20)) ∷ plain (insn.AluLoad alu.Cmp Esi (below 24)) ∷ item.JumpIf cond.L 3
     ∷ item.JumpTo 4 ∷ [])
+    × (branching Ge 9 (InSlot 20) (InWord Edx) (plain (insn.Mov (rm.Reg Ebx) Eax) ∷ []) [] 3 4
+    ≡ plain (insn.Alu alu.Cmp (rm.Mem (below 20)) Edx) ∷ item.JumpIf cond.Ge 9 ∷ item.JumpTo 4 ∷ item.Label 9
+    ∷ plain (insn.Mov (rm.Reg Ebx) Eax) ∷ item.JumpTo 3 ∷ [])
 
 -- The low byte and the low 16 bits of a register's word are one instruction.
 abbrev pub PartsAreRows : Type 0

@@ -1,6 +1,8 @@
 ghost use Rattle.ia32_laws.specs.Supports.{SlotsSupport};
 ghost use Rattle.ia32_laws.specs.KeepsLaws.{ShownInFrame, ProtectedIsApart, PushedIsApart, MovedShows, SetShows};
 ghost use Rattle.ia32_laws.specs.KeepsLaws.{ArrayShows, OwnArrayShows, ElementShows};
+ghost use Rattle.ia32_laws.specs.MovesLaws.{MovesLead, MovesShow};
+ghost use Rattle.ia32_laws.specs.MovesWorked.{MovesSupport};
 ghost use Rattle.ia32_laws.specs.KeepsOps.{ExtensionFollows, NumberFollows, CopyFollows, SumFollows};
 ghost use Rattle.ia32_laws.specs.KeepsOps.{DifferenceFollows, AndFollows, OrFollows, XorFollows, ProductFollows};
 ghost use Rattle.ia32_laws.specs.KeepsOps.{NegationFollows, ComplementFollows, MarkFollows, TurnFollows};
@@ -8,6 +10,11 @@ ghost use Rattle.ia32_laws.specs.KeepsOps.{NegationFollows, ComplementFollows, M
 /// Slots for all variables, apart from each other and from the frame arrays, support every graph.
 pub fn slots_support()
     ensures slots { SlotsSupport }
+{}
+
+/// A variable may stand in one register after a point and in another before the next, where an instruction moves it.
+pub fn a_move_is_supported()
+    ensures { MovesSupport }
 {}
 
 /// A state of the machine that shows one of the program is in the frame of the current call, with the stack far above
@@ -19,11 +26,19 @@ pub fn protected_is_apart()
     ensures pushed { PushedIsApart }
 {}
 
-/// The next state is shown once all that is protected and all places are kept, but for the variable that the op sets,
-/// which stands in its place: for any number of waiting calls, arrays and static objects.
+/// The next state is shown behind the row of an op once all that is protected and all places are kept, but for the
+/// variable that the op sets, which stands in its place: for any number of waiting calls, arrays and static objects.
 pub fn kept_stays_shown()
     ensures moved { MovedShows }
     ensures set { SetShows }
+{}
+
+/// A state that is shown with variables in their places behind a point that its own point follows is shown with them in
+/// their places before its own point, once the machine has gone through the moves between the two; and where its point
+/// comes next, the machine comes there.
+pub fn moves_are_shown()
+    ensures lead { MovesLead }
+    ensures show { MovesShow }
 {}
 
 /// The next state is shown once an array of any depth, or a static object, has other elements at its address, and all

@@ -3,10 +3,11 @@ use Rattle.std.specs.List.{AllByRecursion}
 use Rattle.std.proofs.Common.{◌≡◌, ℕ, zero, suc, ◌+◌, ◌<◌, ◌≤◌, List, [], ◌∷◌, ◌++◌, length, Some, None, sym, ap}
 use Rattle.std.proofs.Common.{subst, refl, ◌∙◌, arith, Option, map}
 use Rattle.std.specs.Prelude.{◌==◌, ◌||◌, ⊤, ℤ, Bool, true, false, if◌then◌else◌, option_map, slice_get, slice_index_or}
+use Rattle.std.specs.Prelude.{nat_lt, pos}
 use Rattle.std.proofs.lemmas.Option.{same_Some}
 pub use Rattle.pcc_base.proofs.Lists.{all-append, all-at, all-weaker, element-at}
 use Rattle.ia32_insn.specs.declared.register_names.Reg32.{Reg32}
-use Rattle.ia32_insn.specs.declared.register_names.Reg32.TheVariants.{Eax, Edx, Esi, Edi}
+use Rattle.ia32_insn.specs.declared.register_names.Reg32.TheVariants.{Eax, Edx, Esp, Esi, Edi}
 use Rattle.ia32_insn.specs.declared.register_names.Reg8.TheVariants.{Cl}
 use Rattle.ia32_insn.specs.Registers.{number32, number8}
 use Rattle.ia32_insn.specs.Places.{Place, InWord, InByte, InSlot}
@@ -31,22 +32,26 @@ use Rattle.flow_graph.specs.declared.op.Bits.{Bits}
 use Rattle.flow_graph.specs.declared.op.Bits.TheVariants.{Eight, Sixteen, ThirtyTwo}
 use Rattle.flow_graph.specs.declared.op.Op.{Op}
 use Rattle.flow_graph.specs.declared.op.Op.TheVariants as op
-use Rattle.flow_graph.specs.Graphs.{Flow}
+use Rattle.flow_graph.specs.Graphs.{Flow, points_of}
 use Rattle.flow_graph.specs.Meaning.{bytes_of}
 use Rattle.ia32_rows.proofs.Spelled.{IsCommon, common-begins}
+use Rattle.ia32_rows.proofs.Straight.{straight-common}
+use Rattle.ia32_rows.specs.Effects.{IsStraight}
+use Rattle.ia32_rows.specs.Filling.{fill}
 use Rattle.ia32_rows.specs.Follows.{is_nop}
 use Rattle.ia32_rows.specs.Placements.{Placement, below}
 use Rattle.ia32_rows.specs.Moves.{has_operand, target_of, working, read, write, operate, number_row, copy_row}
 use Rattle.ia32_rows.specs.Moves.{operation, commuting, pass}
 use Rattle.ia32_rows.specs.Computing.{multiply, multiplying, changing, low_byte, extend, widening, lowering}
 use Rattle.ia32_rows.specs.Computing.{extend_half, halving, into_count, shifted_in, shifting, clear_divisor}
-use Rattle.ia32_rows.specs.Computing.{divisor_of, before_division, dividing, cond_of, comparing, set_row}
+use Rattle.ia32_rows.specs.Computing.{choosing, divisor_of, before_division, dividing, cond_of, comparing, jumping}
+use Rattle.ia32_rows.specs.Computing.{set_row}
 use Rattle.ia32_rows.specs.Passing.{argument_word, param_row, pass_all, deepen, undeepen, drop_words, write_any}
 use Rattle.ia32_rows.specs.Passing.{before_call, behind_call, call_row, leave, return_row, prologue}
 use Rattle.ia32_rows.specs.Accesses.{loading, load_from, storing, store_to, index_register, count_before, element}
 use Rattle.ia32_rows.specs.Accesses.{check_array, check_index, checking, load_row, store_row}
 use Rattle.ia32_rows.specs.Rows.{entry_label, row, place_before, place_after, point_row, point_rows}
-use Rattle.ia32_rows.specs.Rows.{block_rows, headers, selected}
+use Rattle.ia32_rows.specs.Rows.{block_rows, headers, loop_label, moves_into, moves_to, selected}
 
 -- ---- the kinds of items
 
@@ -140,7 +145,7 @@ plain-other : (i : Item) → IsPlain i → IsOther i
 plain-other (item.Plain i) h = h
 plain-other i h = absurd h
 
-plain-others : (items : List Item) → ArePlain items → AreOthers items
+pub plain-others : (items : List Item) → ArePlain items → AreOthers items
 plain-others items h = all-weaker IsPlain IsOther items plain-other h
 
 plain-row : (items : List Item) → IsPlainRow items → IsOtherRow items
@@ -314,7 +319,7 @@ dividing-row part p q r =
     (all-append IsPlain (clear_divisor r) (read Eax q) (clear-insns r) (read-insns Eax q)) (tt, tt))
     ((tt, tt), tt))
 
-comparing-row : (p q : Place) → IsPlainRow (comparing p q)
+pub comparing-row : (p q : Place) → IsPlainRow (comparing p q)
 comparing-row (InWord r) q = operate-row alu.Cmp r q
 comparing-row (InByte r) q =
     row-behind IsPlain (read Esi (InByte r)) (operate alu.Cmp Esi q) (tt, tt) (operate-row alu.Cmp Esi q)
@@ -413,15 +418,66 @@ store-row bits p q r =
     row-behind IsOther (checking p q) (plain (insn.Lea Edi m) ∷ store_to bits r) (checking-insns p q)
     ((tt, store_to-insns bits r), tt)
 
+-- ---- of moves between points
+
+-- plain instructions take room
+plain-room : (insns : List Insn) → AllByRecursion TakesRoom (map item.Plain insns)
+plain-room [] = tt
+plain-room (i ∷ insns) = (tt, plain-room insns)
+
+moves-room : (placement : Placement) (p : ℕ) (next : Option ℕ) → AllByRecursion TakesRoom (moves_to placement p next)
+moves-room placement p None = tt
+moves-room placement p (Some q) = plain-room (placement.between p q)
+
+-- what takes room is an item of a row
+room-item : (i : Item) → TakesRoom i → IsRowItem i
+room-item (item.Point p) h = absurd h
+room-item i h = tt
+
+room-items : (items : List Item) → AllByRecursion TakesRoom items → AllByRecursion IsRowItem items
+room-items items h = all-weaker TakesRoom IsRowItem items room-item h
+
+pub moves-items : (placement : Placement) (p : ℕ) (next : Option ℕ)
+    → AllByRecursion IsRowItem (moves_to placement p next)
+moves-items placement p next = room-items (moves_to placement p next) (moves-room placement p next)
+
+begins-join : (xs ys : List Item) → BeginsWithRoom xs → BeginsWithRoom (xs ++ ys)
+begins-join [] ys h = absurd h
+begins-join (x ∷ xs) ys h = h
+
+room-row : (items : List Item) → AreSome TakesRoom items → IsRow items
+room-row [] h = absurd h.1
+room-row (i ∷ items) h = (room-items (i ∷ items) h.0, h.0.0)
+
+-- a jump behind moves, and a choice of two
+jumping-row : (moves : List Item) (l : ℕ) → AllByRecursion TakesRoom moves → IsRow (jumping moves l)
+jumping-row moves l h = room-row (jumping moves l) (row-behind TakesRoom moves (item.JumpTo l ∷ []) h ((tt, tt), tt))
+
+choosing-items : (c : Cond) (detour taken other : ℕ) (first moves : List Item) → AllByRecursion TakesRoom first
+    → AllByRecursion TakesRoom moves → AllByRecursion IsRowItem (choosing c detour first moves taken other)
+choosing-items c detour taken other [] moves a b = (tt, (jumping-row moves other b).0)
+choosing-items c detour taken other (x ∷ xs) moves a b = (
+  tt,
+  all-append IsRowItem (jumping moves other) (item.Label detour ∷ jumping (x ∷ xs) taken)
+      (jumping-row moves other b).0 (tt, (jumping-row (x ∷ xs) taken a).0),
+)
+
+-- instructions that go on to the next one are no NOP
+pub straight-others : (insns : List Insn) → AllByRecursion IsStraight insns → AreOthers (map item.Plain insns)
+straight-others [] h = tt
+straight-others (i ∷ insns) h = (straight-common i h.0, straight-others insns h.1)
+
 -- ---- of ops
 
--- the op has a loop in its row
-abbrev pub has_loop : Op → Bool
-has_loop (op.Clear k) = true
-has_loop o = false
+-- the op's row has a label, or moves on its way to a block
+abbrev pub has_more : Op → Bool
+has_more (op.Clear k) = true
+has_more (op.Jump x) = true
+has_more (op.Branch how a b x y) = true
+has_more o = false
 
--- the row of an op, but a mark, a turn and `clear`, has no NOP and no label
-pub other-is : (flow : Flow) (placement : Placement) (p : ℕ) (o : Op) → has_loop o ≡ false → is_nop (Some o) ≡ false
+-- the row of any other op but a mark and a turn has no NOP and no label
+pub other-is : (flow : Flow) (placement : Placement) (p : ℕ) (o : Op) → has_more o ≡ false → is_nop (Some o) ≡ false
     → IsOtherRow (row flow placement p o)
 other-is flow placement p (op.Const d n) straight none =
     plain-row (row flow placement p (op.Const d n))
@@ -495,10 +551,8 @@ other-is flow placement p (op.Same a b) straight none =
     compared-row (place_before placement p a) (place_before placement p b) (item.JumpTrap (Some cond.Ne) ∷ []) (tt, tt)
 other-is flow placement p (op.Mark s) straight none = absurd (let e : true ≡ false = none in cc)
 other-is flow placement p op.Turn straight none = absurd (let e : true ≡ false = none in cc)
-other-is flow placement p (op.Jump x) straight none = ((tt, tt), tt)
-other-is flow placement p (op.Branch how a b x y) straight none =
-    compared-row (place_before placement p a) (place_before placement p b)
-    (item.JumpIf (cond_of how) x ∷ item.JumpTo y ∷ []) (tt, (tt, tt))
+other-is flow placement p (op.Jump x) straight none = absurd (let e : true ≡ false = straight in cc)
+other-is flow placement p (op.Branch how a b x y) straight none = absurd (let e : true ≡ false = straight in cc)
 other-is flow placement p (op.Frame d k) straight none =
     let place : Place = place_after placement p d in
     written-behind (plain (insn.Lea (target_of place) (below (slice_index_or placement.arrays k 0)))) place
@@ -523,15 +577,43 @@ pub row-is : (flow : Flow) (placement : Placement) (p : ℕ) (o : Op) → IsRow 
 row-is flow placement p (op.Mark s) = ((tt, tt), tt)
 row-is flow placement p op.Turn = ((tt, tt), tt)
 row-is flow placement p (op.Clear k) = ((tt, (tt, (tt, (tt, (tt, (tt, (tt, tt))))))), tt)
+row-is flow placement p (op.Jump x) =
+    jumping-row (moves_into flow placement p x) x (moves-room placement p (slice_get (points_of flow x) 0))
+row-is flow placement p (op.Branch how a b x y) =
+    let first : List Item = comparing (place_before placement p a) (place_before placement p b) in
+    let rest : List Item = choosing (cond_of how) (loop_label flow p) (moves_into flow placement p x)
+    (moves_into flow placement p y) x y in
+    let compared = other-row first (plain-row first (comparing-row (place_before placement p a)
+    (place_before placement p b))) in (
+      all-append IsRowItem first rest compared.0
+          (choosing-items (cond_of how) (loop_label flow p) x y (moves_into flow placement p x) (moves_into flow placement p y)
+          (moves-room placement p (slice_get (points_of flow x) 0)) (moves-room placement p (slice_get (points_of flow y) 0))),
+      begins-join first rest compared.1,
+    )
 row-is flow placement p o = other-row (row flow placement p o) (other-is flow placement p o refl refl)
+
+-- the moves of a jump are no NOPs
+abbrev pub JumpsOverOthers : Flow → Placement → ℕ → Op → Type 0
+JumpsOverOthers flow placement p o = (x : ℕ) → o ≡ op.Jump x → AreOthers (moves_into flow placement p x)
 
 -- that of a mark or a turn is a NOP, and that of any other op begins with another instruction
 pub other-begins : (flow : Flow) (placement : Placement) (p : ℕ) (o : Op) → is_nop (Some o) ≡ false
-    → BeginsWithOther (row flow placement p o)
-other-begins flow placement p (op.Mark s) none = absurd (let e : true ≡ false = none in cc)
-other-begins flow placement p op.Turn none = absurd (let e : true ≡ false = none in cc)
-other-begins flow placement p (op.Clear k) none = tt
-other-begins flow placement p o none =
+    → JumpsOverOthers flow placement p o → BeginsWithOther (row flow placement p o)
+other-begins flow placement p (op.Mark s) none moves = absurd (let e : true ≡ false = none in cc)
+other-begins flow placement p op.Turn none moves = absurd (let e : true ≡ false = none in cc)
+other-begins flow placement p (op.Clear k) none moves = tt
+other-begins flow placement p (op.Jump x) none moves =
+    other-first (row flow placement p (op.Jump x))
+    (row-behind IsOther (moves_into flow placement p x) (item.JumpTo x ∷ []) (moves x refl) ((tt, tt), tt))
+other-begins flow placement p (op.Branch how a b x y) none moves =
+    first-joined (comparing (place_before placement p a) (place_before placement p b)) _
+    (plain-row (comparing (place_before placement p a) (place_before placement p b))
+    (comparing-row (place_before placement p a) (place_before placement p b)))
+  where
+    first-joined : (xs ys : List Item) → IsOtherRow xs → BeginsWithOther (xs ++ ys)
+    first-joined [] ys h = absurd h.1
+    first-joined (x ∷ xs) ys h = h.0.0
+other-begins flow placement p o none moves =
     other-first (row flow placement p o) (other-is flow placement p o refl refl)
 
 -- ---- points are followed by instructions
@@ -551,10 +633,6 @@ Behind (item.AddressOf r k) items = ⊤
 abbrev pub PointsTakeRoom : List Item → Type 0
 PointsTakeRoom [] = ⊤
 PointsTakeRoom (i ∷ items) = Behind i items × PointsTakeRoom items
-
-begins-join : (xs ys : List Item) → BeginsWithRoom xs → BeginsWithRoom (xs ++ ys)
-begins-join [] ys h = absurd h
-begins-join (x ∷ xs) ys h = h
 
 behind-join : (i : Item) (xs ys : List Item) → Behind i xs → Behind i (xs ++ ys)
 behind-join (item.Plain i) xs ys h = tt
@@ -597,8 +675,10 @@ points-room : (flow : Flow) (placement : Placement) (points : List ℕ)
     → PointsTakeRoom (point_rows flow placement points)
 points-room flow placement [] = tt
 points-room flow placement (p ∷ ps) =
-    room-join (point_row flow placement p) (point_rows flow placement ps) (point-room flow placement p)
-    (points-room flow placement ps)
+    let moves : List Item = moves_to placement p (slice_get ps 0) in
+    room-join (point_row flow placement p) (moves ++ point_rows flow placement ps) (point-room flow placement p)
+    (room-join moves (point_rows flow placement ps) (items-room moves (moves-items placement p (slice_get ps 0)))
+    (points-room flow placement ps))
 
 blocks-room : (flow : Flow) (placement : Placement) (k : ℕ) (blocks : List (List ℕ))
     → PointsTakeRoom (block_rows flow placement k blocks)
@@ -607,9 +687,28 @@ blocks-room flow placement k (points ∷ blocks) =
     room-join (item.Label k ∷ point_rows flow placement points) (block_rows flow placement (suc k) blocks)
     (tt, points-room flow placement points) (blocks-room flow placement (suc k) blocks)
 
-prologue-room : (frame label : ℕ) → PointsTakeRoom (prologue frame label)
-prologue-room frame label =
-    (tt, (tt, (tt, (tt, (tt, (tt, (tt, (tt, (tt, (tt, (tt, (tt, (tt, tt)))))))))))))
+prologue-room : (frame zeroed label : ℕ) → PointsTakeRoom (prologue frame zeroed label)
+prologue-room frame zeroed label =
+    let loops : List Item =
+    plain (insn.MovImm (rm.Reg Esi) (pos 0)) ∷ plain (insn.Lea Edi (below zeroed)) ∷ fill Edi Esi Esp label in (
+      tt,
+      (
+        tt,
+        (
+          tt,
+          (
+            tt,
+            (
+              tt,
+              (
+                tt,
+                either-way PointsTakeRoom (nat_lt zeroed frame) loops [] (tt, (tt, (tt, (tt, (tt, (tt, (tt, tt))))))) tt,
+              ),
+            ),
+          ),
+        ),
+      ),
+    )
 
 headers-room : (arrays : List (ℕ × ℕ)) (belows : List ℕ) → PointsTakeRoom (headers arrays belows)
 headers-room arrays [] = tt
@@ -621,8 +720,8 @@ pub selected-room : (flow : Flow) (placement : Placement) → PointsTakeRoom (se
 selected-room flow placement =
     let numbers : List Item = headers flow.arrays placement.arrays in
     let blocks : List Item = block_rows flow placement 0 flow.blocks in
-    room-join (prologue placement.frame (entry_label flow)) (numbers ++ blocks)
-    (prologue-room placement.frame (entry_label flow))
+    room-join (prologue placement.frame placement.zeroed (entry_label flow)) (numbers ++ blocks)
+    (prologue-room placement.frame placement.zeroed (entry_label flow))
     (room-join numbers blocks (headers-room flow.arrays placement.arrays) (blocks-room flow placement 0 flow.blocks))
 
 -- ---- so two points have two addresses

@@ -16,7 +16,7 @@ use Rattle.flow_graph.specs.Graphs.{Flow, IsIn, Stands, points_of, following}
 use Rattle.flow_graph.proofs.Points.{choose}
 use Rattle.ia32_rows.specs.Placements.{Placement}
 use Rattle.ia32_rows.proofs.Steps.{IsAt, at-front, at-back, items-split}
-use Rattle.ia32_rows.specs.Rows.{entry_label, row, prologue, headers, point_row, point_rows}
+use Rattle.ia32_rows.specs.Rows.{entry_label, row, prologue, headers, moves_to, point_row, point_rows}
 use Rattle.ia32_rows.specs.Rows.{block_rows, selected}
 
 -- ---- items that stand at an address
@@ -72,12 +72,14 @@ nop-there symbols places text items address h =
 
 -- ---- points among the items
 
--- The items of a point stand among these, and right behind them the next point of its block, if it has one.
+-- The items of a point stand among these, and right behind them the moves to the next point of its block, and that
+-- point, if it has one.
 pub record HasRow (flow : Flow) (placement : Placement) (p : ℕ) (next : Option ℕ) (items : List Item) : Type 0 where
   pub front : List Item
   pub rest : List Item
   pub is : items ≡ front ++ (point_row flow placement p ++ rest)
-  pub follows : (q : ℕ) → next ≡ Some q → (more : List Item) × (rest ≡ item.Point q ∷ more)
+  pub follows : (q : ℕ) → next ≡ Some q
+      → (more : List Item) × (rest ≡ moves_to placement p (Some q) ++ item.Point q ∷ more)
 
 -- the row of the first point of a list
 first-row : (flow : Flow) (placement : Placement) (p : ℕ) (ps : List ℕ)
@@ -85,12 +87,14 @@ first-row : (flow : Flow) (placement : Placement) (p : ℕ) (ps : List ℕ)
 first-row flow placement p [] = record { front = []; rest = []; is = refl; follows = λ q e. absurd (cc) }
 first-row flow placement p (x ∷ ps) =
     let back : List Item =
-    row flow placement x (slice_index_or flow.ops x op.Turn) ++ point_rows flow placement ps in
+    row flow placement x (slice_index_or flow.ops x op.Turn)
+    ++ (moves_to placement x (slice_get ps 0) ++ point_rows flow placement ps) in
     record {
       front = [];
-      rest = point_rows flow placement (x ∷ ps);
+      rest = moves_to placement p (Some x) ++ point_rows flow placement (x ∷ ps);
       is = refl;
-      follows = λ q e. (back, ap (λ (n : ℕ). item.Point n ∷ back) (same_Some x q e));
+      follows = λ q e.
+          (back, ap (λ (n : ℕ). moves_to placement p (Some n) ++ item.Point n ∷ back) (same_Some x q e));
     }
 
 -- items before and behind
@@ -102,7 +106,12 @@ row-between flow placement p next before items behind h =
       front = before ++ h.front;
       rest = h.rest ++ behind;
       is = ap (λ (l : List Item). before ++ (l ++ behind)) h.is ∙ between before h.front mine h.rest behind;
-      follows = λ q e. ((h.follows q e).0 ++ behind, ap (λ (l : List Item). l ++ behind) (h.follows q e).1);
+      follows = λ q e.
+          let more = h.follows q e in (
+            more.0 ++ behind,
+            ap (λ (l : List Item). l ++ behind) more.1
+                ∙ append_assoc (moves_to placement p (Some q)) (item.Point q ∷ more.0) behind,
+          );
     }
   where
     between : (a b c d e : List Item) → a ++ ((b ++ (c ++ d)) ++ e) ≡ (a ++ b) ++ (c ++ (d ++ e))
@@ -122,13 +131,15 @@ row-in-points flow placement (x ∷ ps) p (inr i) =
     let items : List Item = point_rows flow placement (x ∷ ps) in
     let later : HasRow flow placement p (following p ps) (point_rows flow placement ps) =
     row-in-points flow placement ps p i in
-    let none : point_row flow placement x ++ (point_rows flow placement ps ++ []) ≡ items =
-    ap (λ (l : List Item). point_row flow placement x ++ l) (append-nil (point_rows flow placement ps)) in
+    let moves : List Item = moves_to placement x (slice_get ps 0) in
+    let none : (point_row flow placement x ++ moves) ++ (point_rows flow placement ps ++ []) ≡ items =
+    ap (λ (l : List Item). (point_row flow placement x ++ moves) ++ l) (append-nil (point_rows flow placement ps))
+    ∙ append_assoc (point_row flow placement x) moves (point_rows flow placement ps) in
     choose x p (λ (n : Option ℕ). HasRow flow placement p n items) (slice_get ps 0) (following p ps)
     (λ e. subst (λ (n : ℕ). HasRow flow placement n (slice_get ps 0) items) e (first-row flow placement x ps))
     (subst (HasRow flow placement p (following p ps)) none
-    (row-between flow placement p (following p ps) (point_row flow placement x) (point_rows flow placement ps) []
-    later))
+    (row-between flow placement p (following p ps) (point_row flow placement x ++ moves) (point_rows flow placement ps)
+    [] later))
 
 -- the row of a point of a block
 pub row-in-blocks : (flow : Flow) (placement : Placement) (k : ℕ) (blocks : List (List ℕ)) (p b : ℕ)
@@ -152,7 +163,7 @@ pub row-in-graph : (flow : Flow) (placement : Placement) (p b : ℕ) → Stands 
     → HasRow flow placement p (following p (points_of flow b)) (selected flow placement)
 row-in-graph flow placement p b h =
     let next : Option ℕ = following p (points_of flow b) in
-    let front : List Item = prologue placement.frame (entry_label flow) in
+    let front : List Item = prologue placement.frame placement.zeroed (entry_label flow) in
     let numbers : List Item = headers flow.arrays placement.arrays in
     let back : List Item = block_rows flow placement 0 flow.blocks in
     subst (HasRow flow placement p next) (behind-two front numbers back)

@@ -3,20 +3,28 @@
 use Rattle.std.specs.List.{AllByRecursion}
 use Rattle.std.proofs.Common.{◌≡◌, ◌≢◌, ℕ, zero, suc, ◌+◌, ◌<◌, ◌≤◌, Bool, List, [], ◌∷◌, ◌++◌, length, Option, Some}
 use Rattle.std.proofs.Common.{None, refl, sym, ap, subst, ◌∙◌, inl, inr, arith, eqb, cond, length-append}
-use Rattle.std.specs.Prelude.{◌⊎◌, slice_get, slice_index_or}
+use Rattle.std.specs.Prelude.{◌⊎◌, map, nat_lt, pos, slice_get, slice_index_or}
 use Rattle.std.proofs.lemmas.Bool.Decides.{eqb_tells}
 use Rattle.std.proofs.lemmas.Option.{same_Some, slice_get_within}
 use Rattle.pcc_base.proofs.Lists.{all-weaker}
+use Rattle.ia32_insn.specs.declared.register_names.Reg32.TheVariants.{Esp, Esi, Edi}
+use Rattle.ia32_insn.specs.declared.operand.Rm32.TheVariants as rm
+use Rattle.ia32_insn.specs.declared.insn.Cond.{Cond}
+use Rattle.ia32_insn.specs.declared.insn.Insn.{Insn}
+use Rattle.ia32_insn.specs.declared.insn.Insn.TheVariants as insn
 use Rattle.ia32_insn.specs.declared.item.Item.{Item}
 use Rattle.ia32_insn.specs.declared.item.Item.TheVariants as item
+use Rattle.ia32_insn.specs.Items.{plain}
 use Rattle.flow_graph.specs.declared.op.Op.{Op}
 use Rattle.flow_graph.specs.declared.op.Op.TheVariants as op
 use Rattle.flow_graph.specs.Graphs.{Flow, IsIn, IsDistinct, IsEnded, IsFlow, LastIsEnd, points_of, without}
 use Rattle.flow_graph.proofs.Points.{every-in, every-without, distinct-without, choose, every-from}
-use Rattle.ia32_rows.specs.Placements.{Placement}
+use Rattle.ia32_rows.specs.Placements.{Placement, below}
 use Rattle.ia32_rows.specs.Once.{LabelsStandOnce, PointsArePlaced, PointsStandOnce}
-use Rattle.ia32_rows.specs.Rows.{entry_label, headers, loop_label, row, prologue, point_rows, block_rows, selected}
-use Rattle.ia32_rows.proofs.ItemKinds.{IsOther, IsRowItem, other-is, row-is}
+use Rattle.ia32_rows.specs.Filling.{fill}
+use Rattle.ia32_rows.specs.Rows.{block_rows, choosing, comparing, cond_of, entry_label, headers, jumping, loop_label}
+use Rattle.ia32_rows.specs.Rows.{moves_into, moves_to, place_before, point_rows, prologue, row, selected}
+use Rattle.ia32_rows.proofs.ItemKinds.{IsOther, IsRowItem, comparing-row, either-way, other-is, plain-others, row-is}
 
 -- ---- numbers of items
 
@@ -127,13 +135,57 @@ others-labels (item.CallStub t ∷ items) h = others-labels items h.1
 others-labels (item.JumpTrap c ∷ items) h = others-labels items h.1
 others-labels (item.AddressOf r k ∷ items) h = others-labels items h.1
 
--- a row has no label, or its loop's alone
+-- plain instructions have neither
+plain-numbers : (f : Item → Option ℕ) → ((i : Insn) → f (item.Plain i) ≡ None) → (insns : List Insn)
+    → numbers f (map item.Plain insns) ≡ []
+plain-numbers f none [] = refl
+plain-numbers f none (i ∷ insns) =
+    ap (λ (o : Option ℕ). before o (numbers f (map item.Plain insns))) (none i) ∙ plain-numbers f none insns
+
+moves-labels : (placement : Placement) (p : ℕ) (next : Option ℕ) → numbers label_of (moves_to placement p next) ≡ []
+moves-labels placement p None = refl
+moves-labels placement p (Some q) = plain-numbers label_of (λ i. refl) (placement.between p q)
+
+moves-points : (placement : Placement) (p : ℕ) (next : Option ℕ) → numbers point_of (moves_to placement p next) ≡ []
+moves-points placement p None = refl
+moves-points placement p (Some q) = plain-numbers point_of (λ i. refl) (placement.between p q)
+
+-- a jump behind moves has no label, and a choice of two has none or that of its detour
+jumping-labels : (moves : List Item) (l : ℕ) → numbers label_of moves ≡ [] → numbers label_of (jumping moves l) ≡ []
+jumping-labels moves l none =
+    numbers-append label_of moves (item.JumpTo l ∷ []) ∙ ap (λ (ns : List ℕ). ns ++ []) none
+
+choosing-labels : (c : Cond) (detour taken other : ℕ) (first moves : List Item) → numbers label_of first ≡ []
+    → numbers label_of moves ≡ [] → (numbers label_of (choosing c detour first moves taken other) ≡ [])
+    ⊎ (numbers label_of (choosing c detour first moves taken other) ≡ detour ∷ [])
+choosing-labels c detour taken other [] moves a b = inl (jumping-labels moves other b)
+choosing-labels c detour taken other (x ∷ xs) moves a b =
+    inr (numbers-append label_of (jumping moves other) (item.Label detour ∷ jumping (x ∷ xs) taken)
+    ∙ ap (λ (ns : List ℕ). ns ++ (detour ∷ numbers label_of (jumping (x ∷ xs) taken))) (jumping-labels moves other b)
+    ∙ ap (λ (ns : List ℕ). detour ∷ ns) (jumping-labels (x ∷ xs) taken a))
+
+-- a row has no label, or its loop's or detour's alone
 row-labels : (flow : Flow) (placement : Placement) (p : ℕ) (o : Op)
     → (numbers label_of (row flow placement p o) ≡ [])
     ⊎ (numbers label_of (row flow placement p o) ≡ loop_label flow p ∷ [])
 row-labels flow placement p (op.Mark s) = inl refl
 row-labels flow placement p op.Turn = inl refl
 row-labels flow placement p (op.Clear k) = inr refl
+row-labels flow placement p (op.Jump x) =
+    inl (jumping-labels (moves_into flow placement p x) x (moves-labels placement p (slice_get (points_of flow x) 0)))
+row-labels flow placement p (op.Branch how a b x y) =
+    let first : List Item = comparing (place_before placement p a) (place_before placement p b) in
+    let rest : List Item = choosing (cond_of how) (loop_label flow p) (moves_into flow placement p x)
+    (moves_into flow placement p y) x y in
+    let none : numbers label_of (first ++ rest) ≡ numbers label_of rest =
+    numbers-append label_of first rest ∙ ap (λ (ns : List ℕ). ns ++ numbers label_of rest)
+    (others-labels first (plain-others first (comparing-row (place_before placement p a)
+    (place_before placement p b)).0)) in
+    subst (λ (ns : List ℕ). (ns ≡ []) ⊎ (ns ≡ loop_label flow p ∷ [])) (sym none)
+    (choosing-labels (cond_of how) (loop_label flow p) x y (moves_into flow placement p x)
+    (moves_into flow placement p y)
+    (moves-labels placement p (slice_get (points_of flow x) 0))
+    (moves-labels placement p (slice_get (points_of flow y) 0)))
 row-labels flow placement p o =
     inl (others-labels (row flow placement p o) (other-is flow placement p o refl refl).0)
 
@@ -143,9 +195,13 @@ point_rows-points flow placement [] = refl
 point_rows-points flow placement (p ∷ ps) =
     let o : Op = slice_index_or flow.ops p op.Turn in
     let mine : List Item = row flow placement p o in
-    ap (λ (l : List ℕ). p ∷ l) (numbers-append point_of mine (point_rows flow placement ps)
-    ∙ ap (λ (l : List ℕ). l ++ numbers point_of (point_rows flow placement ps))
-    (row-points mine (row-is flow placement p o).0) ∙ point_rows-points flow placement ps)
+    let moves : List Item = moves_to placement p (slice_get ps 0) in
+    let rest : List Item = point_rows flow placement ps in
+    ap (λ (l : List ℕ). p ∷ l) (numbers-append point_of mine (moves ++ rest)
+    ∙ ap (λ (l : List ℕ). l ++ numbers point_of (moves ++ rest)) (row-points mine (row-is flow placement p o).0)
+    ∙ numbers-append point_of moves rest
+    ∙ ap (λ (l : List ℕ). l ++ numbers point_of rest) (moves-points placement p (slice_get ps 0))
+    ∙ point_rows-points flow placement ps)
 
 -- the points of all blocks
 abbrev pub all_points : List (List ℕ) → List ℕ
@@ -172,13 +228,30 @@ headers-labels arrays [] = refl
 headers-labels [] (d ∷ belows) = refl
 headers-labels (array ∷ arrays) (d ∷ belows) = headers-labels arrays belows
 
+-- the first items have no point, and one label at most
+abbrev first_loop : ℕ → ℕ → List Item
+first_loop zeroed label =
+    plain (insn.MovImm (rm.Reg Esi) (pos 0)) ∷ plain (insn.Lea Edi (below zeroed)) ∷ fill Edi Esi Esp label
+
+prologue-points : (frame zeroed label : ℕ) → numbers point_of (prologue frame zeroed label) ≡ []
+prologue-points frame zeroed label =
+    either-way (λ (items : List Item). numbers point_of items ≡ []) (nat_lt zeroed frame) (first_loop zeroed label) []
+    refl refl
+
+prologue-labels : (frame zeroed label : ℕ) → (numbers label_of (prologue frame zeroed label) ≡ [])
+    ⊎ (numbers label_of (prologue frame zeroed label) ≡ label ∷ [])
+prologue-labels frame zeroed label =
+    either-way (λ (items : List Item). (numbers label_of items ≡ []) ⊎ (numbers label_of items ≡ label ∷ []))
+    (nat_lt zeroed frame) (first_loop zeroed label) [] (inr refl) (inl refl)
+
 -- the numbers of a graph's items are those of its first items and of its blocks
 selected-numbers : (f : Item → Option ℕ) (flow : Flow) (placement : Placement)
     → numbers f (headers flow.arrays placement.arrays) ≡ []
     → numbers f (selected flow placement)
-    ≡ numbers f (prologue placement.frame (entry_label flow)) ++ numbers f (block_rows flow placement 0 flow.blocks)
+    ≡ numbers f (prologue placement.frame placement.zeroed (entry_label flow))
+    ++ numbers f (block_rows flow placement 0 flow.blocks)
 selected-numbers f flow placement none =
-    let first : List Item = prologue placement.frame (entry_label flow) in
+    let first : List Item = prologue placement.frame placement.zeroed (entry_label flow) in
     let middle : List Item = headers flow.arrays placement.arrays in
     let blocks : List Item = block_rows flow placement 0 flow.blocks in
     numbers-append f first (middle ++ blocks)
@@ -189,10 +262,13 @@ pub selected-points : (flow : Flow) (placement : Placement)
     → numbers point_of (selected flow placement) ≡ all_points flow.blocks
 selected-points flow placement =
     selected-numbers point_of flow placement (headers-points flow.arrays placement.arrays)
+    ∙ ap (λ (l : List ℕ). l ++ numbers point_of (block_rows flow placement 0 flow.blocks))
+    (prologue-points placement.frame placement.zeroed (entry_label flow))
     ∙ block_rows-points flow placement 0 flow.blocks
 
 selected-labels : (flow : Flow) (placement : Placement) → numbers label_of (selected flow placement)
-    ≡ entry_label flow ∷ numbers label_of (block_rows flow placement 0 flow.blocks)
+    ≡ numbers label_of (prologue placement.frame placement.zeroed (entry_label flow))
+    ++ numbers label_of (block_rows flow placement 0 flow.blocks)
 selected-labels flow placement =
     selected-numbers label_of flow placement (headers-labels flow.arrays placement.arrays)
 
@@ -386,7 +462,20 @@ row-distinct flow placement p o =
       | inr one ↦ subst IsDistinct (sym one) (tt, tt)
     ]
 
--- the labels of points' rows are those of their loops
+-- the labels of points' rows are those of the first and those of the others
+parted-labels : (flow : Flow) (placement : Placement) (p : ℕ) (ps : List ℕ)
+    → numbers label_of (point_rows flow placement (p ∷ ps))
+    ≡ numbers label_of (row flow placement p (slice_index_or flow.ops p op.Turn))
+    ++ numbers label_of (point_rows flow placement ps)
+parted-labels flow placement p ps =
+    let mine : List Item = row flow placement p (slice_index_or flow.ops p op.Turn) in
+    let moves : List Item = moves_to placement p (slice_get ps 0) in
+    let rest : List Item = point_rows flow placement ps in
+    numbers-append label_of mine (moves ++ rest)
+    ∙ ap (λ (l : List ℕ). numbers label_of mine ++ l) (numbers-append label_of moves rest
+    ∙ ap (λ (l : List ℕ). l ++ numbers label_of rest) (moves-labels placement p (slice_get ps 0)))
+
+-- the labels of points' rows are those of their loops and detours
 points-labels : (flow : Flow) (placement : Placement) (points : List ℕ) (n : ℕ)
     → IsIn n (numbers label_of (point_rows flow placement points)) → (p : ℕ) × IsIn p points × (n ≡ loop_label flow p)
 points-labels flow placement [] n h = absurd h
@@ -394,8 +483,7 @@ points-labels flow placement (p ∷ ps) n h =
     let o : Op = slice_index_or flow.ops p op.Turn in
     let mine : List ℕ = numbers label_of (row flow placement p o) in
     let rest : List ℕ = numbers label_of (point_rows flow placement ps) in
-    elim (in-either mine rest n (subst (IsIn n)
-    (numbers-append label_of (row flow placement p o) (point_rows flow placement ps)) h)) [
+    elim (in-either mine rest n (subst (IsIn n) (parted-labels flow placement p ps) h)) [
       | inl here ↦ (p, inl refl, row-label flow placement p n o here)
       | inr there ↦ let m = points-labels flow placement ps n there in (m.0, inr m.1, m.2)
     ]
@@ -407,7 +495,7 @@ points-labelled flow placement (p ∷ ps) d =
     let o : Op = slice_index_or flow.ops p op.Turn in
     let mine : List ℕ = numbers label_of (row flow placement p o) in
     let rest : List ℕ = numbers label_of (point_rows flow placement ps) in
-    subst IsDistinct (sym (numbers-append label_of (row flow placement p o) (point_rows flow placement ps)))
+    subst IsDistinct (sym (parted-labels flow placement p ps))
     (distinct-join mine rest (row-distinct flow placement p o) (points-labelled flow placement ps d.1)
     (λ n here there.
     let m = points-labels flow placement ps n there in
@@ -506,8 +594,19 @@ labels-distinct flow homes placement f = (
     behind n e (inl (low, high)) = omega (arith, e, high)
     behind n e (inr (p, i, is)) = omega (arith, e, is)
 
+all-distinct : (flow : Flow) (homes : List ℕ) (placement : Placement) → IsFlow flow homes
+    → IsDistinct (numbers label_of (prologue placement.frame placement.zeroed (entry_label flow))
+    ++ numbers label_of (block_rows flow placement 0 flow.blocks))
+all-distinct flow homes placement f =
+    let rest : List ℕ = numbers label_of (block_rows flow placement 0 flow.blocks) in
+    let d = labels-distinct flow homes placement f in
+    elim (prologue-labels placement.frame placement.zeroed (entry_label flow)) [
+      | inl none ↦ subst (λ (ns : List ℕ). IsDistinct (ns ++ rest)) (sym none) d.1
+      | inr one ↦ subst (λ (ns : List ℕ). IsDistinct (ns ++ rest)) (sym one) d
+    ]
+
 -- no label of a graph's code stands twice
 pub labels-once : LabelsStandOnce
 labels-once flow homes placement f i j n a b =
     once label_of (selected flow placement) i j n (item.Label n) (item.Label n)
-    (subst IsDistinct (sym (selected-labels flow placement)) (labels-distinct flow homes placement f)) a b refl refl
+    (subst IsDistinct (sym (selected-labels flow placement)) (all-distinct flow homes placement f)) a b refl refl

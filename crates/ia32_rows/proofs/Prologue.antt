@@ -1,7 +1,8 @@
--- The prologue: the caller's registers are saved, the frame is made, and every word below them becomes 0.
+-- The prologue: the caller's registers are saved, the frame is made, and words further below become 0.
 use Rattle.std.proofs.Common.{◌≡◌, ℕ, ◌+◌, ◌-◌, ◌*◌, ◌/◌, ◌%◌, ◌^◌, ◌<◌, ◌≤◌, List, ◌∷◌, ◌++◌, pos, Ok, refl, sym, ap}
-use Rattle.std.proofs.Common.{subst, ◌∙◌, inl, arith}
-use Rattle.std.specs.Prelude.{Result}
+use Rattle.std.proofs.Common.{subst, ◌∙◌, inl, arith, [], nat_lt}
+use Rattle.std.specs.Prelude.{Result, Bool, true, false, if◌then◌else◌}
+use Rattle.std.proofs.lemmas.Bool.Decides.{nat_tests}
 use Rattle.pcc_base.specs.Outcome.{End}
 use Rattle.ia32_insn.specs.declared.register_names.Reg32.{Reg32}
 use Rattle.ia32_insn.specs.declared.register_names.Reg32.TheVariants.{Ebx, Esp, Ebp, Esi, Edi}
@@ -13,6 +14,7 @@ use Rattle.ia32_insn.specs.Meaning.{load, word_of, with_word}
 use Rattle.ia32_insn.specs.Keeps.{AreDisjoint}
 use Rattle.ia32_insn.specs.Items.{plain}
 use Rattle.ia32_rows.specs.Placements.{below}
+use Rattle.ia32_rows.specs.Passing.{zeroing}
 use Rattle.ia32_rows.proofs.Sound.{load-same, word-below}
 use Rattle.ia32_rows.proofs.Steps.{Comes, comes-then}
 use Rattle.ia32_rows.proofs.Filling.{fill-goes, zeros-load}
@@ -157,12 +159,8 @@ sixteen : (low e f : ℕ) → low + f + 64 ≤ e → 16 ≤ e
 sixteen low e f h = omega arith
 
 -- the items behind the pushes
-abbrev making : ℕ → ℕ → List Item → List Item
-making frame label back =
-    plain (insn.Lea Esp (below frame))
-    ∷ plain (insn.MovImm (rm.Reg Esi) (pos 0))
-    ∷ plain (insn.Lea Edi (below 12))
-    ∷ (fill Edi Esi Esp label ++ back)
+abbrev making : ℕ → ℕ → ℕ → List Item → List Item
+making frame zeroed label back = plain (insn.Lea Esp (below frame)) ∷ (zeroing frame zeroed label ++ back)
 
 -- the last two registers, behind EBX
 saves-two : (site : Site) (frame : ℕ) (items : List Item) (t a b : State) → site.low + frame + 64 ≤ word_of Esp t
@@ -228,39 +226,40 @@ frame-top e b c h k p q = omega arith
 zero_fits : 0 < 2 ^ 32
 zero_fits = omega arith
 
-some-twelve : 0 < 12
-some-twelve = omega arith
+-- how many words of a frame become 0
+abbrev words_below : ℕ → ℕ → ℕ
+words_below frame zeroed = (frame - zeroed) / 4
 
--- how many words of a frame are below the saved ones
-abbrev words_below : ℕ → ℕ
-words_below frame = (frame - 12) / 4
+words-some : (f z : ℕ) → f % 4 ≡ 0 → z % 4 ≡ 0 → z < f → 0 < words_below f z
+words-some f z words also less = omega arith
 
-words-some : (f : ℕ) → 16 ≤ f → 0 < words_below f
-words-some f h = omega arith
-
-words-end : (low e f b : ℕ) → low + f + 64 ≤ e → b + 4 ≡ e → 16 ≤ f → f % 4 ≡ 0 → b - f + 4 * words_below f ≡ b - 12
-words-end low e f b h p some words = omega arith
+words-end : (low e f z b : ℕ) → low + f + 64 ≤ e → b + 4 ≡ e → f % 4 ≡ 0 → z % 4 ≡ 0 → z < f
+    → b - f + 4 * words_below f z ≡ b - z
+words-end low e f z b h p words also less = omega arith
 
 words-low : (low e f b : ℕ) → low + f + 64 ≤ e → b + 4 ≡ e → low ≤ b - f
 words-low low e f b h p = omega arith
 
-words-high : (b h : ℕ) → b ≤ h → b - 12 ≤ h
-words-high b h p = omega arith
+words-high : (b z h : ℕ) → b ≤ h → b - z ≤ h
+words-high b z h p = omega arith
 
--- the saved words are part of the frame and of the word above it, and so are the words below them
+-- the saved words are part of the frame and of the word above it, and so are the words that become 0
 saved-part : (low e f n b : ℕ) → low + f + 64 ≤ e → 16 ≤ f → AreDisjoint (e - (f + 4)) (f + 4) b n
     → AreDisjoint (e - 16) 16 b n
 saved-part low e f n b h p d = disjoint-part (e - (f + 4)) (f + 4) (e - 16) 16 b n (omega arith) (omega arith) d
 
-words-part : (low e f base n b : ℕ) → low + f + 64 ≤ e → base + 4 ≡ e → 16 ≤ f → f % 4 ≡ 0
-    → AreDisjoint (e - (f + 4)) (f + 4) b n → AreDisjoint (base - f) (4 * words_below f) b n
-words-part low e f base n b h p some words k =
-    disjoint-part (e - (f + 4)) (f + 4) (base - f) (4 * words_below f) b n (omega arith) (omega arith) k
+words-part : (low e f m base n b : ℕ) → low + f + 64 ≤ e → base + 4 ≡ e → 4 * m ≤ f
+    → AreDisjoint (e - (f + 4)) (f + 4) b n → AreDisjoint (base - f) (4 * m) b n
+words-part low e f m base n b h p few k =
+    disjoint-part (e - (f + 4)) (f + 4) (base - f) (4 * m) b n (omega arith) (omega arith) k
+
+words-few : (f z : ℕ) → 4 * words_below f z ≤ f
+words-few f z = omega arith
 
 -- a saved word is above them
-saved-above : (base f c : ℕ) → base - f + 4 * words_below f ≡ base - 12 → c ≤ 12
-    → AreDisjoint (base - f) (4 * words_below f) (base - c) 4
-saved-above base f c e h = inl (omega arith)
+saved-above : (base f m z c : ℕ) → base - f + 4 * m ≡ base - z → 12 ≤ z → c ≤ 12
+    → AreDisjoint (base - f) (4 * m) (base - c) 4
+saved-above base f m z c e low h = inl (omega arith)
 
 minus-none : (b : ℕ) → b - 0 ≡ b
 minus-none b = omega arith
@@ -277,90 +276,58 @@ few-eight = omega arith
 few-twelve : 12 ≤ 12
 few-twelve = omega arith
 
--- a saved word so far below EBP is kept while the others become 0
-word-saved : (site : Site) (frame : ℕ) (f i u : State) (c v : ℕ)
-    → word_of Ebp f - frame + 4 * words_below frame ≡ word_of Ebp f - 12 → c ≤ 12 → word_of Ebp u ≡ word_of Ebp f
-    → i.memory ≡ f.memory → Filled site Edi (word_of Ebp f - frame) (words_below frame) 0 i u
-    → load 4 (word_of Ebp f - c) f ≡ Ok v → load 4 (word_of Ebp u - c) u ≡ Ok v
-word-saved site frame f i u c v end few now memory r held =
-    let base : ℕ = word_of Ebp f in
-    subst (λ (k : ℕ). load 4 (k - c) u ≡ Ok v) (sym now)
-    (r.kept 4 (base - c) v (saved-above base frame c end few) (load-same 4 (base - c) v f i memory held))
+-- The frame is made: saved words are kept, and words below them are 0.
+record Made (site : Site) (frame zeroed : ℕ) (f u : State) : Type 0 where
+  pub comes : Comes site.text f u
+  pub sound : SoundAt site u
+  pub ebp : word_of Ebp u ≡ word_of Ebp f
+  pub esp : word_of Esp u ≡ word_of Ebp f - frame
+  pub saved : (c v : ℕ) → c ≤ 12 → load 4 (word_of Ebp f - c) f ≡ Ok v → load 4 (word_of Ebp f - c) u ≡ Ok v
+  pub zeros : (n a : ℕ) → word_of Ebp f - frame ≤ a → a + n ≤ word_of Ebp f - zeroed → 0 < n → load n a u ≡ Ok 0
+  pub kept : (n b w : ℕ)
+      → ((k : ℕ) → 4 * k ≤ frame → AreDisjoint (word_of Ebp f - frame) (4 * k) b n) → load n b f ≡ Ok w
+      → load n b u ≡ Ok w
+  pub left : u.left ≡ f.left
+  pub taken : u.taken ≡ f.taken
+  pub written : u.written ≡ f.written
 
--- the state in which the words below the saved ones are to be filled
-record Made (site : Site) (frame : ℕ) (f i : State) : Type 0 where
-  pub comes : Comes site.text f i
-  pub sound : SoundAt site i
-  pub ebp : word_of Ebp i ≡ word_of Ebp f
-  pub esp : word_of Esp i ≡ word_of Ebp f - frame
-  pub esi : word_of Esi i ≡ 0
-  pub edi : word_of Edi i ≡ word_of Ebp f - 12
-  pub memory : i.memory ≡ f.memory
-  pub left : i.left ≡ f.left
-  pub taken : i.taken ≡ f.taken
-  pub written : i.written ≡ f.written
-
-entered : (site : Site) (frame : ℕ) (back : List Item) (t f i u : State)
-    → site.low + frame + 64 ≤ word_of Esp t → word_of Esp t + 4 ≤ site.high → 16 ≤ frame → frame % 4 ≡ 0
-    → Saved site t f → Made site frame f i → Comes site.text i u → ReadyAt site back u
-    → Filled site Edi (word_of Ebp f - frame) (words_below frame) 0 i u → Entered site frame back t u
-entered site frame back t f i u room top some words p q comes ready r =
+entered : (site : Site) (frame zeroed : ℕ) (back : List Item) (t f u : State)
+    → site.low + frame + 64 ≤ word_of Esp t → word_of Esp t + 4 ≤ site.high → 16 ≤ frame
+    → Saved site t f → ReadyAt site back u → Made site frame zeroed f u → Entered site frame zeroed back t u
+entered site frame zeroed back t f u room top some p ready r =
     let e : ℕ = word_of Esp t in
     let base : ℕ = word_of Ebp f in
-    let now : word_of Ebp u ≡ base = r.others Ebp (unlike 5 7 refl) ∙ q.ebp in
-    let esp : word_of Esp u ≡ base - frame = r.others Esp (unlike 4 7 refl) ∙ q.esp in
-    let end : base - frame + 4 * words_below frame ≡ base - 12 =
-    words-end site.low e frame base room p.ebp some words in
     let first : load 4 (base - 0) f ≡ Ok (word_of Ebp t) =
     subst (λ (k : ℕ). load 4 k f ≡ Ok (word_of Ebp t)) (sym (minus-none base)) p.old_ebp in
     record {
-      comes = comes-then site.text t f u p.comes (comes-then site.text f i u q.comes comes);
+      comes = comes-then site.text t f u p.comes r.comes;
       ready = ready;
       framed = record {
         sound = r.sound;
-        esp = esp-below (word_of Esp u) (word_of Ebp u) frame base esp (frame-within site.low e frame base room p.ebp)
-            now;
-        room = esp-room site.low e frame base (word_of Esp u) room p.ebp esp;
-        top = frame-top e base (word_of Ebp u) site.high top p.ebp now;
+        esp = esp-below (word_of Esp u) (word_of Ebp u) frame base r.esp (frame-within site.low e frame base room p.ebp)
+            r.ebp;
+        room = esp-room site.low e frame base (word_of Esp u) room p.ebp r.esp;
+        top = frame-top e base (word_of Ebp u) site.high top p.ebp r.ebp;
       };
-      ebp = ap (λ (k : ℕ). k + 4) now ∙ p.ebp;
+      ebp = ap (λ (k : ℕ). k + 4) r.ebp ∙ p.ebp;
       old_ebp = subst (λ (k : ℕ). load 4 k u ≡ Ok (word_of Ebp t)) (minus-none (word_of Ebp u))
-          (word-saved site frame f i u 0 (word_of Ebp t) end few-none now q.memory r first);
-      old_ebx = word-saved site frame f i u 4 (word_of Ebx t) end few-four now q.memory r p.old_ebx;
-      old_esi = word-saved site frame f i u 8 (word_of Esi t) end few-eight now q.memory r p.old_esi;
-      old_edi = word-saved site frame f i u 12 (word_of Edi t) end few-twelve now q.memory r p.old_edi;
+          (still 0 (word_of Ebp t) few-none first);
+      old_ebx = still 4 (word_of Ebx t) few-four p.old_ebx;
+      old_esi = still 8 (word_of Esi t) few-eight p.old_esi;
+      old_edi = still 12 (word_of Edi t) few-twelve p.old_edi;
       zeros = λ n a from to more.
-          zeros-load site (base - frame) (words_below frame) n a u r.sound
-          (words-low site.low e frame base room p.ebp)
-          (subst (λ (k : ℕ). k ≤ site.high) (sym end)
-          (words-high base site.high (frame-high e base site.high top p.ebp)))
-          r.words (subst (λ (k : ℕ). k ≤ a) esp from)
-          (subst (λ (k : ℕ). a + n ≤ k) (ap (λ (k : ℕ). k - 12) now ∙ sym end) to) more;
+          r.zeros n a (subst (λ (k : ℕ). k ≤ a) r.esp from)
+          (subst (λ (k : ℕ). a + n ≤ k) (ap (λ (k : ℕ). k - zeroed) r.ebp) to) more;
       kept = λ n b w k held.
-          r.kept n b w (words-part site.low e frame base n b room p.ebp some words k)
-          (load-same n b w f i q.memory (p.kept n b w (saved-part site.low e frame n b room some k) held));
-      left = r.left ∙ q.left ∙ p.left;
-      taken = r.taken ∙ q.taken ∙ p.taken;
-      written = r.written ∙ q.written ∙ p.written;
+          r.kept n b w (λ m few. words-part site.low e frame m base n b room p.ebp few k)
+          (p.kept n b w (saved-part site.low e frame n b room some k) held);
+      left = r.left ∙ p.left;
+      taken = r.taken ∙ p.taken;
+      written = r.written ∙ p.written;
     }
-
-made : (site : Site) (frame : ℕ) (f g h i : State) → Comes site.text f g
-    → Sets site Esp (word_of Ebp f - frame) f.written f g → Comes site.text g h → Sets site Esi 0 g.written g h
-    → Comes site.text h i → Sets site Edi (word_of Ebp h - 12) h.written h i → Made site frame f i
-made site frame f g h i pg qg ph qh pi qi =
-    let same : word_of Ebp h ≡ word_of Ebp f = qh.others Ebp (unlike 5 6 refl) ∙ qg.others Ebp (unlike 5 4 refl) in
-    record {
-      comes = comes-then site.text f g i pg (comes-then site.text g h i ph pi);
-      sound = qi.sound;
-      ebp = qi.others Ebp (unlike 5 7 refl) ∙ same;
-      esp = qi.others Esp (unlike 4 7 refl) ∙ qh.others Esp (unlike 4 6 refl) ∙ qg.value;
-      esi = qi.others Esi (unlike 6 7 refl) ∙ qh.value;
-      edi = qi.value ∙ ap (λ (k : ℕ). k - 12) same;
-      memory = qi.memory ∙ qh.memory ∙ qg.memory;
-      left = qi.left ∙ qh.left ∙ qg.left;
-      taken = qi.taken ∙ qh.taken ∙ qg.taken;
-      written = qi.written ∙ qh.written ∙ qg.written;
-    }
+  where
+    still : (c v : ℕ) → c ≤ 12 → load 4 (word_of Ebp f - c) f ≡ Ok v → load 4 (word_of Ebp u - c) u ≡ Ok v
+    still c v few held = subst (λ (k : ℕ). load 4 (k - c) u ≡ Ok v) (sym r.ebp) (r.saved c v few held)
 
 -- LEA of an address below EBP
 pub lea-goes : (site : Site) (items : List Item) (r : Reg32) (d : ℕ) (s : State) → SoundAt site s
@@ -373,47 +340,147 @@ lea-goes site items r d s sound ready some within =
     (difference-below (word_of Ebp s) d 0x1_0000_0000 fits)
     (λ after. ap (λ (k : ℕ). let o : Result State End = Ok (with_word r k s) in o) at) (λ after. refl)
 
-twelve-within : (f b c : ℕ) → 16 ≤ f → f ≤ b → c ≡ b → 12 ≤ c
-twelve-within f b c h k p = omega arith
+-- no word becomes 0
+bare : (site : Site) (frame zeroed : ℕ) (f g : State) → frame ≤ zeroed → Comes site.text f g
+    → Sets site Esp (word_of Ebp f - frame) f.written f g → Made site frame zeroed f g
+bare site frame zeroed f g low pg qg =
+    record {
+      comes = pg;
+      sound = qg.sound;
+      ebp = qg.others Ebp (unlike 5 4 refl);
+      esp = qg.value;
+      saved = λ c v few held. load-same 4 (word_of Ebp f - c) v f g qg.memory held;
+      zeros = λ n a from to more. absurd (none (word_of Ebp f) frame zeroed n a low from to more);
+      kept = λ n b w apart held. load-same n b w f g qg.memory held;
+      left = qg.left;
+      taken = qg.taken;
+      written = qg.written;
+    }
+  where
+    none : (b f z n a : ℕ) → f ≤ z → b - f ≤ a → a + n ≤ b - z → 0 < n → ⊥
+    none b f z n a h i k l = omega arith
 
-makes-frame : (site : Site) (frame label : ℕ) (back : List Item) (t : State)
-    → site.low + frame + 64 ≤ word_of Esp t → word_of Esp t + 4 ≤ site.high → 16 ≤ frame → frame % 4 ≡ 0
-    → ((f : State) × Saved site t f × ReadyAt site (making frame label back) f)
-    → (u : State) × Entered site frame back t u
-makes-frame site frame label back t room top some words (f, p, ready) =
-    let e : ℕ = word_of Esp t in
+-- words become 0 by the loop
+filled : (site : Site) (frame zeroed : ℕ) (f g h i u : State) → site.low + frame + 64 ≤ word_of Ebp f + 4
+    → word_of Ebp f ≤ site.high → frame % 4 ≡ 0 → zeroed % 4 ≡ 0 → 12 ≤ zeroed → zeroed < frame → Comes site.text f g
+    → Sets site Esp (word_of Ebp f - frame) f.written f g → Comes site.text g h → Sets site Esi 0 g.written g h
+    → Comes site.text h i → Sets site Edi (word_of Ebp h - zeroed) h.written h i → Comes site.text i u
+    → Filled site Edi (word_of Ebp f - frame) (words_below frame zeroed) 0 i u → Made site frame zeroed f u
+filled site frame zeroed f g h i u room top words also low less pg qg ph qh pi qi pu r =
     let base : ℕ = word_of Ebp f in
-    let three : List Item = fill Edi Esi Esp label ++ back in
-    let two : List Item = plain (insn.Lea Edi (below 12)) ∷ three in
-    let one : List Item = plain (insn.MovImm (rm.Reg Esi) (pos 0)) ∷ two in
-    let within : frame ≤ base = frame-within site.low e frame base room p.ebp in
-    let q = lea-goes site one Esp frame f p.sound ready (frame-some frame some) within in
-    let g : State = q.0 in
-    let r = set-goes site two (insn.MovImm (rm.Reg Esi) (pos 0)) Esi 0 g.flags g q.3.sound q.2 tt zero_fits
-    (λ after. refl) (λ after. refl) in
-    let h : State = r.0 in
-    let same : word_of Ebp h ≡ base = r.3.others Ebp (unlike 5 6 refl) ∙ q.3.others Ebp (unlike 5 4 refl) in
-    let v = lea-goes site three Edi 12 h r.3.sound r.2 some-twelve
-    (twelve-within frame base (word_of Ebp h) some within same) in
-    let i : State = v.0 in
-    let m : Made site frame f i = made site frame f g h i q.1 q.3 r.1 r.3 v.1 v.3 in
-    let end : base - frame + 4 * words_below frame ≡ base - 12 =
-    words-end site.low e frame base room p.ebp some words in
-    let w = fill-goes site Edi Esi Esp label (base - frame) (words_below frame) back i (unlike 6 7 refl)
-    (unlike 4 7 refl) v.3.sound v.2 (words-some frame some) (words-low site.low e frame base room p.ebp)
-    (subst (λ (k : ℕ). k ≤ site.high) (sym end) (words-high base site.high (frame-high e base site.high top p.ebp)))
-    (m.edi ∙ sym end) m.esp in
-    let filled : Filled site Edi (base - frame) (words_below frame) 0 i w.0 =
-    subst (λ (k : ℕ). Filled site Edi (base - frame) (words_below frame) k i w.0) m.esi w.3 in
-    (w.0, entered site frame back t f i w.0 room top some words p m w.1 w.2 filled)
+    let end : base - frame + 4 * words_below frame zeroed ≡ base - zeroed =
+    words-end site.low (base + 4) frame zeroed base room refl words also less in
+    let memory = qi.memory ∙ qh.memory ∙ qg.memory in
+    record {
+      comes = comes-then site.text f g u pg (comes-then site.text g h u ph (comes-then site.text h i u pi pu));
+      sound = r.sound;
+      ebp = r.others Ebp (unlike 5 7 refl) ∙ qi.others Ebp (unlike 5 7 refl) ∙ qh.others Ebp (unlike 5 6 refl)
+          ∙ qg.others Ebp (unlike 5 4 refl);
+      esp = r.others Esp (unlike 4 7 refl) ∙ qi.others Esp (unlike 4 7 refl) ∙ qh.others Esp (unlike 4 6 refl)
+          ∙ qg.value;
+      saved = λ c v few held.
+          r.kept 4 (base - c) v (saved-above base frame (words_below frame zeroed) zeroed c end low few)
+          (load-same 4 (base - c) v f i memory held);
+      zeros = λ n a from to more.
+          zeros-load site (base - frame) (words_below frame zeroed) n a u r.sound
+          (words-low site.low (base + 4) frame base room refl)
+          (subst (λ (k : ℕ). k ≤ site.high) (sym end) (words-high base zeroed site.high top)) r.words from
+          (subst (λ (k : ℕ). a + n ≤ k) (sym end) to) more;
+      kept = λ n b w apart held.
+          r.kept n b w (apart (words_below frame zeroed) (words-few frame zeroed)) (load-same n b w f i memory held);
+      left = r.left ∙ qi.left ∙ qh.left ∙ qg.left;
+      taken = r.taken ∙ qi.taken ∙ qh.taken ∙ qg.taken;
+      written = r.written ∙ qi.written ∙ qh.written ∙ qg.written;
+    }
 
--- the prologue makes the frame, with the caller's registers in its first words and 0 in all others
+zeroed-within : (f z b c : ℕ) → z < f → f ≤ b → c ≡ b → z ≤ c
+zeroed-within f z b c h k p = omega arith
+
+some-zeroed : (z : ℕ) → 12 ≤ z → 0 < z
+some-zeroed z h = omega arith
+
+-- whether a number is below another is what the test says
+test-less : (a b : ℕ) → nat_lt a b ≡ true → a < b
+test-less a b h = grind (arith, nat_tests, h)
+
+test-more : (a b : ℕ) → nat_lt a b ≡ false → b ≤ a
+test-more a b h = grind (arith, nat_tests, h)
+
+makes-frame : (site : Site) (frame zeroed label : ℕ) (back : List Item) (t : State)
+    → site.low + frame + 64 ≤ word_of Esp t → word_of Esp t + 4 ≤ site.high → 16 ≤ frame → frame % 4 ≡ 0
+    → 12 ≤ zeroed → zeroed % 4 ≡ 0
+    → ((f : State) × Saved site t f × ReadyAt site (making frame zeroed label back) f)
+    → (u : State) × Entered site frame zeroed back t u
+makes-frame site frame zeroed label back t room top some words low also (f, p, ready) =
+    chosen (nat_lt zeroed frame) refl q.2
+  where
+    e : ℕ
+    e = word_of Esp t
+
+    base : ℕ
+    base = word_of Ebp f
+
+    within : frame ≤ base
+    within = frame-within site.low e frame base room p.ebp
+
+    lower : site.low + frame + 64 ≤ base + 4
+    lower = subst (λ (k : ℕ). site.low + frame + 64 ≤ k) (sym p.ebp) room
+
+    higher : base ≤ site.high
+    higher = frame-high e base site.high top p.ebp
+
+    q : (g : State) × Comes site.text f g × ReadyAt site (zeroing frame zeroed label ++ back) g
+        × Sets site Esp (word_of Ebp f - frame) f.written f g
+    q = lea-goes site (zeroing frame zeroed label ++ back) Esp frame f p.sound ready (frame-some frame some) within
+
+    loops : List Item
+    loops =
+        plain (insn.MovImm (rm.Reg Esi) (pos 0)) ∷ plain (insn.Lea Edi (below zeroed)) ∷ fill Edi Esi Esp label
+
+    chosen : (b : Bool) → nat_lt zeroed frame ≡ b → ReadyAt site ((if b then loops else []) ++ back) q.0
+        → (u : State) × Entered site frame zeroed back t u
+    chosen false is there = (
+      q.0,
+      entered site frame zeroed back t f q.0 room top some p there
+          (bare site frame zeroed f q.0 (test-more zeroed frame is) q.1 q.3),
+    )
+    chosen true is there =
+        let less = test-less zeroed frame is in
+        let g : State = q.0 in
+        let three : List Item = fill Edi Esi Esp label ++ back in
+        let two : List Item = plain (insn.Lea Edi (below zeroed)) ∷ three in
+        let r = set-goes site two (insn.MovImm (rm.Reg Esi) (pos 0)) Esi 0 g.flags g q.3.sound there tt zero_fits
+        (λ after. refl) (λ after. refl) in
+        let h : State = r.0 in
+        let same : word_of Ebp h ≡ base = r.3.others Ebp (unlike 5 6 refl) ∙ q.3.others Ebp (unlike 5 4 refl) in
+        let v = lea-goes site three Edi zeroed h r.3.sound r.2 (some-zeroed zeroed low)
+        (zeroed-within frame zeroed base (word_of Ebp h) less within same) in
+        let i : State = v.0 in
+        let edi : word_of Edi i ≡ base - zeroed = v.3.value ∙ ap (λ (k : ℕ). k - zeroed) same in
+        let esp : word_of Esp i ≡ base - frame =
+        v.3.others Esp (unlike 4 7 refl) ∙ r.3.others Esp (unlike 4 6 refl) ∙ q.3.value in
+        let esi : word_of Esi i ≡ 0 = v.3.others Esi (unlike 6 7 refl) ∙ r.3.value in
+        let end : base - frame + 4 * words_below frame zeroed ≡ base - zeroed =
+        words-end site.low (base + 4) frame zeroed base lower refl words also less in
+        let w = fill-goes site Edi Esi Esp label (base - frame) (words_below frame zeroed) back i (unlike 6 7 refl)
+        (unlike 4 7 refl) v.3.sound v.2 (words-some frame zeroed words also less)
+        (words-low site.low (base + 4) frame base lower refl)
+        (subst (λ (k : ℕ). k ≤ site.high) (sym end) (words-high base zeroed site.high higher))
+        (edi ∙ sym end) esp in
+        let full : Filled site Edi (base - frame) (words_below frame zeroed) 0 i w.0 =
+        subst (λ (k : ℕ). Filled site Edi (base - frame) (words_below frame zeroed) k i w.0) esi w.3 in (
+          w.0,
+          entered site frame zeroed back t f w.0 room top some p w.2
+              (filled site frame zeroed f g h i w.0 lower higher words also low less q.1 q.3 r.1 r.3 v.1 v.3 w.1 full),
+        )
+
+-- the prologue makes the frame, with the caller's registers in its first words, and 0 in all that are so far below them
 pub prologue-goes : PrologueGoes
-prologue-goes site frame label back t sound ready room top some words =
+prologue-goes site frame zeroed label back t sound ready room top some words low also =
     let e : ℕ = word_of Esp t in
-    let items : List Item = making frame label back in
+    let items : List Item = making frame zeroed label back in
     let one : List Item = plain (insn.Mov (rm.Reg Ebp) Esp) ∷ plain (insn.Push (rm.Reg Ebx))
     ∷ plain (insn.Push (rm.Reg Esi)) ∷ plain (insn.Push (rm.Reg Edi)) ∷ items in
-    makes-frame site frame label back t room top some words
+    makes-frame site frame zeroed label back t room top some words low also
     (saves-ebp site frame items t room top (push-goes site one Ebp t sound ready (room-first site.low e frame room)
     (top-first e site.high top)))

@@ -28,7 +28,7 @@ straight-target (insn.Jcc c distance) after s h = absurd h
 straight-target i after s h = refl
 
 -- it is no NOP
-straight-common : (i : Insn) → IsStraight i → IsCommon i
+pub straight-common : (i : Insn) → IsStraight i → IsCommon i
 straight-common (insn.Call distance) h = absurd h
 straight-common insn.Ret h = absurd h
 straight-common (insn.Jmp distance) h = absurd h

@@ -29,9 +29,9 @@ ReturnsToStart symbols text objects main address =
 
 -- ---- a function's first items
 
--- The state behind the prologue: the caller's registers are in the frame's first words, and what is loaded from below
--- these is 0.
-pub record Entered (site : Site) (frame : ℕ) (back : List Item) (t u : State) : Type 0 where
+-- The state behind the prologue: the caller's registers are in the frame's first words, and what is loaded from further
+-- below EBP than so many bytes is 0.
+pub record Entered (site : Site) (frame zeroed : ℕ) (back : List Item) (t u : State) : Type 0 where
   pub comes : Comes site.text t u
   pub ready : ReadyAt site back u
   pub framed : Framed site frame u
@@ -40,20 +40,21 @@ pub record Entered (site : Site) (frame : ℕ) (back : List Item) (t u : State) 
   pub old_ebx : load 4 (word_of Ebp u - 4) u ≡ Ok (word_of Ebx t)
   pub old_esi : load 4 (word_of Ebp u - 8) u ≡ Ok (word_of Esi t)
   pub old_edi : load 4 (word_of Ebp u - 12) u ≡ Ok (word_of Edi t)
-  pub zeros : (n a : ℕ) → word_of Esp u ≤ a → a + n ≤ word_of Ebp u - 12 → 0 < n → load n a u ≡ Ok 0
+  pub zeros : (n a : ℕ) → word_of Esp u ≤ a → a + n ≤ word_of Ebp u - zeroed → 0 < n → load n a u ≡ Ok 0
   pub kept : (n b w : ℕ) → AreDisjoint (word_of Esp t - (frame + 4)) (frame + 4) b n → load n b t ≡ Ok w → load n b u
       ≡ Ok w
   pub left : u.left ≡ t.left
   pub taken : u.taken ≡ t.taken
   pub written : u.written ≡ t.written
 
--- the prologue makes a frame of words, with the caller's registers in its first ones and 0 in all others
+-- The prologue makes a frame of words, with the caller's registers in its first ones, and 0 in all that are further
+-- below EBP than so many bytes.
 abbrev pub PrologueGoes : Type 0
 PrologueGoes =
-    (site : Site) (frame label : ℕ) (back : List Item) (t : State) → SoundAt site t
-    → ReadyAt site (prologue frame label ++ back) t
+    (site : Site) (frame zeroed label : ℕ) (back : List Item) (t : State) → SoundAt site t
+    → ReadyAt site (prologue frame zeroed label ++ back) t
     → site.low + frame + 64 ≤ word_of Esp t → word_of Esp t + 4 ≤ site.high → 16 ≤ frame → frame % 4 ≡ 0
-    → (u : State) × Entered site frame back t u
+    → 12 ≤ zeroed → zeroed % 4 ≡ 0 → (u : State) × Entered site frame zeroed back t u
 
 -- ---- a return
 

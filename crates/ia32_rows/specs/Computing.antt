@@ -168,14 +168,21 @@ set_row c (InSlot k) =
 abbrev pub setting : Comparison → Place → Place → Place → List Item
 setting how result first second = comparing first second ++ set_row (cond_of how) result
 
--- to one label where they compare so, to the other where they don't
-abbrev pub branching : Comparison → Place → Place → ℕ → ℕ → List Item
-branching how first second taken other =
-    comparing first second ++ item.JumpIf (cond_of how) taken ∷ item.JumpTo other ∷ []
+-- to a label, through the moves on the way there
+abbrev pub jumping : List Item → ℕ → List Item
+jumping moves label = moves ++ item.JumpTo label ∷ []
 
--- to a label
-abbrev pub jumping : ℕ → List Item
-jumping label = item.JumpTo label ∷ []
+-- To one label where the flags meet the condition, to the other where they don't, each through the moves on its way.
+-- Where there are some on the way to the first, the branch leads to them, behind a label of their own.
+abbrev pub choosing : Cond → ℕ → List Item → List Item → ℕ → ℕ → List Item
+choosing c detour [] moves taken other = item.JumpIf c taken ∷ jumping moves other
+choosing c detour (move ∷ first) moves taken other =
+    item.JumpIf c detour ∷ jumping moves other ++ item.Label detour ∷ jumping (move ∷ first) taken
+
+-- to one label where two words compare so, to the other where they don't
+abbrev pub branching : Comparison → ℕ → Place → Place → List Item → List Item → ℕ → ℕ → List Item
+branching how detour first second to_taken to_other taken other =
+    comparing first second ++ choosing (cond_of how) detour to_taken to_other taken other
 
 -- the trap of a failed check, unless two words are the same
 abbrev pub same_row : Place → Place → List Item

@@ -16,6 +16,7 @@ pub mod Sites
 pub mod ShowsWorked
 pub mod Effects
 pub mod Contains
+pub mod Copying
 pub mod Laws
 pub mod Unary
 pub mod Products

@@ -1,7 +1,8 @@
 -- The rows of what goes to other code and comes back: argument words, calls of functions and of routines, and the first
 -- and last items of a function. The caller's EBX, ESI, EDI and EBP are kept, and a result comes back in EAX (System V
 -- ABI, Intel386 supplement, "Function Calling Sequence").
-use Rattle.std.specs.Prelude.{◌+◌, ◌*◌, ◌%◌, ◌^◌, ℕ, pos, List, [], ◌∷◌, ◌++◌, length, Option, Some, None}
+use Rattle.std.specs.Prelude.{◌+◌, ◌*◌, ◌%◌, ◌^◌, ℕ, pos, nat_lt, List, [], ◌∷◌, ◌++◌, length, Option, Some, None}
+use Rattle.std.specs.Prelude.{if◌then◌else◌}
 use Rattle.std.specs.Int.{w32, cast_signed}
 use Rattle.ia32_insn.specs.declared.register_names.Reg32.TheVariants.{Eax, Ebx, Esp, Ebp, Esi, Edi}
 use Rattle.ia32_insn.specs.Places.{Place}
@@ -100,19 +101,25 @@ leave =
 abbrev pub return_row : Place → List Item
 return_row a = read Eax a ++ leave
 
--- The frame is made: the caller's registers are kept in its first words, and every word below these is 0. The last of
--- these items is a loop, whose label this is.
-abbrev pub prologue : ℕ → ℕ → List Item
-prologue frame label =
+-- The words of the frame that are further below EBP than so many bytes become 0, where there are any, by a loop with
+-- this label.
+abbrev pub zeroing : ℕ → ℕ → ℕ → List Item
+zeroing frame zeroed label =
+    if nat_lt zeroed frame then
+    plain (insn.MovImm (rm.Reg Esi) (pos 0)) ∷ plain (insn.Lea Edi (below zeroed)) ∷ fill Edi Esi Esp label
+    else []
+
+-- The frame is made: the caller's registers are kept in its first words, and every word further below EBP than so many
+-- bytes is 0.
+abbrev pub prologue : ℕ → ℕ → ℕ → List Item
+prologue frame zeroed label =
     plain (insn.Push (rm.Reg Ebp))
     ∷ plain (insn.Mov (rm.Reg Ebp) Esp)
     ∷ plain (insn.Push (rm.Reg Ebx))
     ∷ plain (insn.Push (rm.Reg Esi))
     ∷ plain (insn.Push (rm.Reg Edi))
     ∷ plain (insn.Lea Esp (below frame))
-    ∷ plain (insn.MovImm (rm.Reg Esi) (pos 0))
-    ∷ plain (insn.Lea Edi (below 12))
-    ∷ fill Edi Esi Esp label
+    ∷ zeroing frame zeroed label
 
 -- Behind them the number of each frame array's elements goes into the four bytes before it. There are as many arrays as
 -- distances below EBP.

@@ -4,6 +4,7 @@ use Rattle.std.specs.Prelude.{option_map}
 use Rattle.ia32_insn.specs.declared.register_names.Reg32.TheVariants.{Ebp}
 use Rattle.ia32_insn.specs.Places.{Place, InSlot}
 use Rattle.ia32_insn.specs.declared.operand.Mem.{Mem}
+use Rattle.ia32_insn.specs.declared.insn.Insn.{Insn}
 use Rattle.ia32_insn.specs.declared.item.Item.{Item}
 use Rattle.ia32_insn.specs.Items.{Object, Places, Symbols, IsText}
 use Rattle.flow_graph.specs.States.{GraphProgram}
@@ -12,26 +13,39 @@ use Rattle.flow_graph.specs.States.{GraphProgram}
 abbrev pub below : ℕ → Mem
 below distance = record { base = Some Ebp; index = None; disp = neg_ℤ (pos distance) }
 
--- A function's frame: its bytes, how far below EBP element 0 of each frame array is, and where each variable stands
--- before and after each point, if it stands anywhere.
+-- A function's frame: its bytes, and how far below EBP element 0 of each frame array is. What is further below EBP than
+-- `zeroed` is 0 where the function begins. Each variable stands somewhere before and after each point, or nowhere; and
+-- instructions move it from where it stands after a point to where it stands before one that follows.
 pub record Placement : Type 0 where
   pub frame : ℕ
+  pub zeroed : ℕ
   pub arrays : List ℕ
   pub before : ℕ → ℕ → Option Place
   pub after : ℕ → ℕ → Option Place
+  pub between : ℕ → ℕ → List Insn
 
--- every variable in a slot of its own, at every point
+-- every variable in a slot of its own, at every point: nothing moves, and all that is below the caller's registers is 0
 abbrev pub in_slots : ℕ → List ℕ → List ℕ → Placement
 in_slots frame arrays slots =
     record {
       frame = frame;
+      zeroed = 12;
       arrays = arrays;
       before = λ point variable. option_map InSlot (slice_get slots variable);
       after = λ point variable. option_map InSlot (slice_get slots variable);
+      between = λ point next. [];
     }
 
 abbrev pub no_placement : Placement
-no_placement = record { frame = 0; arrays = []; before = λ point variable. None; after = λ point variable. None }
+no_placement =
+    record {
+      frame = 0;
+      zeroed = 0;
+      arrays = [];
+      before = λ point variable. None;
+      after = λ point variable. None;
+      between = λ point next. [];
+    }
 
 -- The code of a program of graphs: for each function its placement, its items, and where these stand in the text, and
 -- the functions' numbers in the order of the text.

@@ -225,8 +225,10 @@ FrameArraysStand code s frame a =
 
 -- ---- the whole
 
--- The state s of the machine shows the state g of the program over an input.
-pub record Shows (code : Code) (input : List ℕ) (g : graph.State) (s : machine.State) : Type 0 where
+-- The state s of the machine shows the state g of the program over an input, with the current call's variables in these
+-- places and EIP at this address.
+pub record ShowsIn (code : Code) (input : List ℕ) (places : ℕ → Option Place) (address : ℕ) (g : graph.State)
+    (s : machine.State) : Type 0 where
   -- the frames of the active calls, the youngest first
   pub frames : List ℕ
   pub older : List ℕ
@@ -236,7 +238,7 @@ pub record Shows (code : Code) (input : List ℕ) (g : graph.State) (s : machine
   pub placed : Stands (flow_at code.program g.current.function) g.point g.block
   pub shapes : map shape_of s.memory ≡ map shape_of (text_state code.text (objects_of code.program) input).memory
   pub text : option_map (λ (a : machine.Area). a.bytes) (slice_get s.memory 0) ≡ Some code.text
-  pub eip : s.eip ≡ point_address code g.current.function g.point
+  pub eip : s.eip ≡ address
   -- the stack
   pub esp : word_of Esp s + (placement_of code g.current.function).frame ≡ word_of Ebp s
   pub room : stack_end code.text (objects_of code.program) ≤ word_of Esp s + stack_bytes code (active_of g)
@@ -244,8 +246,7 @@ pub record Shows (code : Code) (input : List ℕ) (g : graph.State) (s : machine
   pub depth : load 4 code.symbols.depth s ≡ Ok (depth_of g)
   pub chain : WaitFrom code (active_of g) frames s g.current (word_of Ebp s) g.waiting older
   -- variables, arguments and arrays
-  pub variables : AllStand code (active_of g) frames s (word_of Ebp s) g.current
-      ((placement_of code g.current.function).before g.point)
+  pub variables : AllStand code (active_of g) frames s (word_of Ebp s) g.current places
   pub arguments : (i : ℕ) (a : Activation) (frame : ℕ) → slice_get (active_of g) i ≡ Some a
       → slice_get frames i ≡ Some frame → ArgumentsStand code (active_of g) frames s frame a.arguments
   pub old_arrays : (i : ℕ) (a : Activation) → slice_get (active_of g) i ≡ Some a
@@ -258,3 +259,9 @@ pub record Shows (code : Code) (input : List ℕ) (g : graph.State) (s : machine
   pub taken : s.taken ≡ g.taken
   pub written : s.written ≡ g.written
   pub of_input : s.left ≡ drop s.taken input
+
+-- It shows it where EIP is at its point, and the variables stand where they do before it.
+abbrev pub Shows : Code → List ℕ → graph.State → machine.State → Type 0
+Shows code input g s =
+    ShowsIn code input ((placement_of code g.current.function).before g.point)
+    (point_address code g.current.function g.point) g s

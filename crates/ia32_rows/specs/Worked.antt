@@ -1,5 +1,7 @@
 -- The items of ops, over slots and over registers.
-use Rattle.std.specs.Prelude.{◌≡◌, pos, negsuc, List, [], ◌∷◌, slice_get, Some, None}
+use Rattle.std.specs.Prelude.{◌≡◌, ◌==◌, ℕ, pos, negsuc, List, [], ◌∷◌, ◌++◌, if◌then◌else◌, slice_get, Some, None}
+use Rattle.pcc_base.specs.declared.run.Width.TheVariants.{Two}
+use Rattle.ia32_insn.specs.declared.register_names.Reg32.{Reg32}
 use Rattle.ia32_insn.specs.declared.register_names.Reg32.TheVariants.{Eax, Ecx, Edx, Ebx, Esp, Ebp, Esi, Edi}
 use Rattle.ia32_insn.specs.declared.register_names.Reg8.TheVariants.{Al, Bl, Bh, Cl}
 use Rattle.ia32_insn.specs.Places.{Place, InWord, InByte, InSlot}
@@ -7,6 +9,7 @@ use Rattle.ia32_insn.specs.declared.operand.Rm32.TheVariants as rm
 use Rattle.ia32_insn.specs.declared.operand.Rm8.TheVariants as rm8
 use Rattle.ia32_insn.specs.declared.insn.AluOp.TheVariants as alu
 use Rattle.ia32_insn.specs.declared.insn.Cond.TheVariants as cond
+use Rattle.ia32_insn.specs.declared.insn.Insn.{Insn}
 use Rattle.ia32_insn.specs.declared.insn.Insn.TheVariants as insn
 use Rattle.ia32_insn.specs.declared.item.Item.{Item}
 use Rattle.ia32_insn.specs.declared.item.Item.TheVariants as item
@@ -16,8 +19,10 @@ use Rattle.flow_graph.specs.declared.op.Bits.TheVariants.{Eight, Sixteen, Thirty
 use Rattle.flow_graph.specs.declared.op.Comparison.TheVariants.{Lt}
 use Rattle.flow_graph.specs.declared.op.Op.{Op}
 use Rattle.flow_graph.specs.declared.op.Op.TheVariants as op
+use Rattle.flow_graph.specs.Graphs.{Flow}
 use Rattle.ia32_rows.specs.Placements.{Placement, below, in_slots}
-use Rattle.ia32_rows.specs.Rows.{headers, row}
+use Rattle.ia32_rows.specs.Filling.{fill}
+use Rattle.ia32_rows.specs.Rows.{block_rows, headers, leave, prologue, row}
 
 -- the items of an op at point 7 of a graph of one block, with a frame array of five elements of two bytes
 abbrev pub row_in : Placement → Op → List Item
@@ -28,18 +33,22 @@ row_in placement o =
 abbrev pub all_in : Place → Place → Place → Placement
 all_in first second third = record {
   frame = 16;
+  zeroed = 16;
   arrays = [];
   before = λ point variable. slice_get (first ∷ second ∷ third ∷ []) variable;
   after = λ point variable. slice_get (first ∷ second ∷ third ∷ []) variable;
+  between = λ point next. [];
 }
 
 -- variables 0 and 1 in EAX and ECX before a point, and variable 2 in this place after it
 abbrev pub result_to : Place → Placement
 result_to result = record {
   frame = 16;
+  zeroed = 16;
   arrays = [];
   before = λ point variable. slice_get (InWord Eax ∷ InWord Ecx ∷ []) variable;
   after = λ point variable. slice_get (InWord Eax ∷ InWord Ecx ∷ result ∷ []) variable;
+  between = λ point next. [];
 }
 
 -- Over slots a sum is three instructions. Over registers it is two, and one where the result stands where an operand
@@ -126,9 +135,11 @@ BranchesAreRows =
 abbrev pub with_array : Place → Place → Place → Placement
 with_array first second third = record {
   frame = 44;
+  zeroed = 16;
   arrays = 40 ∷ [];
   before = λ point variable. slice_get (first ∷ second ∷ third ∷ []) variable;
   after = λ point variable. slice_get (first ∷ second ∷ third ∷ []) variable;
+  between = λ point next. [];
 }
 
 -- The address of a frame array is one instruction in a register, that of a static object too. A static number goes by
@@ -187,3 +198,85 @@ abbrev pub HeadersAreRows : Type 0
 HeadersAreRows =
     headers ((2, 5) ∷ (4, 3) ∷ []) (28 ∷ 44 ∷ [])
     ≡ plain (insn.MovImm (rm.Mem (below 32)) (pos 5)) ∷ plain (insn.MovImm (rm.Mem (below 48)) (pos 3)) ∷ []
+
+-- ---- between points
+
+-- Three blocks. Behind point 0 stands a branch, which leads to point 2 or to point 3; and point 3 leads to point 2.
+abbrev pub three_blocks : Flow
+three_blocks =
+    record {
+      widths = Two ∷ [];
+      arrays = [];
+      blocks = (0 ∷ 1 ∷ []) ∷ (2 ∷ []) ∷ (3 ∷ []) ∷ [];
+      ops = op.Const 0 (pos 5) ∷ op.Branch Lt 0 0 1 2 ∷ op.Return (Some 0) ∷ op.Jump 1 ∷ [];
+    }
+
+-- what moves a variable to a register from EAX
+abbrev pub from_eax : Reg32 → List Insn
+from_eax r = insn.Mov (rm.Reg r) Eax ∷ []
+
+-- The variable is always in EAX, and these moves stand on the way from each point to the next.
+abbrev pub with_moves : (ℕ → ℕ → List Insn) → Placement
+with_moves moves = record {
+  frame = 16;
+  zeroed = 16;
+  arrays = [];
+  before = λ point variable. Some (InWord Eax);
+  after = λ point variable. Some (InWord Eax);
+  between = moves;
+}
+
+-- Moves stand behind the row of a point, before a jump, and on both ways of a branch: those on the way that it takes
+-- have a label of their own, which isn't there where they aren't.
+abbrev pub MovesAreBetween : Type 0
+MovesAreBetween =
+    (block_rows three_blocks (with_moves (λ point next. from_eax (if next == 2 then Ecx else Edx))) 0
+    three_blocks.blocks
+    ≡ item.Label 0
+    ∷ item.Point 0
+    ∷ plain (insn.MovImm (rm.Reg Eax) (pos 5))
+    ∷ plain (insn.Mov (rm.Reg Edx) Eax)
+    ∷ item.Point 1
+    ∷ plain (insn.Alu alu.Cmp (rm.Reg Eax) Eax)
+    ∷ item.JumpIf cond.L 5
+    ∷ plain (insn.Mov (rm.Reg Edx) Eax)
+    ∷ item.JumpTo 2
+    ∷ item.Label 5
+    ∷ plain (insn.Mov (rm.Reg Ecx) Eax)
+    ∷ item.JumpTo 1
+    ∷ item.Label 1
+    ∷ item.Point 2
+    ∷ leave
+    ++ item.Label 2
+    ∷ item.Point 3
+    ∷ plain (insn.Mov (rm.Reg Ecx) Eax)
+    ∷ item.JumpTo 1
+    ∷ [])
+    × (row three_blocks (with_moves (λ point next. if next == 2 then [] else from_eax Edx)) 1 (op.Branch Lt 0 0 1 2)
+    ≡ plain (insn.Alu alu.Cmp (rm.Reg Eax) Eax)
+    ∷ item.JumpIf cond.L 1
+    ∷ plain (insn.Mov (rm.Reg Edx) Eax)
+    ∷ item.JumpTo 2
+    ∷ [])
+
+-- A function's first items have a loop only where words further below EBP than those before are made 0.
+abbrev pub FirstItemsAreRows : Type 0
+FirstItemsAreRows =
+    (prologue 16 16 3
+    ≡ plain (insn.Push (rm.Reg Ebp))
+    ∷ plain (insn.Mov (rm.Reg Ebp) Esp)
+    ∷ plain (insn.Push (rm.Reg Ebx))
+    ∷ plain (insn.Push (rm.Reg Esi))
+    ∷ plain (insn.Push (rm.Reg Edi))
+    ∷ plain (insn.Lea Esp (below 16))
+    ∷ [])
+    × (prologue 24 16 3
+    ≡ plain (insn.Push (rm.Reg Ebp))
+    ∷ plain (insn.Mov (rm.Reg Ebp) Esp)
+    ∷ plain (insn.Push (rm.Reg Ebx))
+    ∷ plain (insn.Push (rm.Reg Esi))
+    ∷ plain (insn.Push (rm.Reg Edi))
+    ∷ plain (insn.Lea Esp (below 24))
+    ∷ plain (insn.MovImm (rm.Reg Esi) (pos 0))
+    ∷ plain (insn.Lea Edi (below 16))
+    ∷ fill Edi Esi Esp 3)

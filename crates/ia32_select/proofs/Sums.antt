@@ -75,9 +75,9 @@ below-first f (suc n) = omega (arith, below-first f n)
 
 -- so much for each op, and 8 for each word that it passes
 abbrev pub weight : List Op → ℕ → ℕ
-weight ops p = 200 + 8 * words_of (slice_index_or ops p op.Turn)
+weight ops p = 640 + 8 * words_of (slice_index_or ops p op.Turn)
 
-pub weights : (ops : List Op) → below (weight ops) (length ops) ≡ 200 * length ops + 8 * sum_by words_of ops
+pub weights : (ops : List Op) → below (weight ops) (length ops) ≡ 640 * length ops + 8 * sum_by words_of ops
 weights [] = omega arith
 weights (o ∷ ops) =
     let first = below-first (weight (o ∷ ops)) (length ops) in

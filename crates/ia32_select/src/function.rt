@@ -30,6 +30,9 @@ fn frame_end(frame: u32) -> i32
     -(frame as i32)
 }
 
+/// The offset of the last of the words that keep the caller's registers; those below it are cleared.
+const ZEROED: i32 = -12;
+
 /// The items that the definitions name.
 fn select_items(site: &Site<'_>) -> Result<Vec<Item>, NoMemory>
     requires arrays { AreArraysIn (flow_of site.now).arrays site.now.frame (placement_of site.now).arrays }
@@ -38,7 +41,12 @@ fn select_items(site: &Site<'_>) -> Result<Vec<Item>, NoMemory>
     ensures { IfOk result (λ v. v.items ≡ selected (flow_of site.now) (placement_of site.now)) }
 {
     let mut items = Vec::new(site.alloc);
-    emit_prologue(&mut items, frame_end(site.frame), site.graph.blocks())?;
+    emit_prologue(
+        &mut items,
+        frame_end(site.frame),
+        ZEROED,
+        site.graph.blocks(),
+    )?;
     emit_headers(&mut items, site)?;
     emit_blocks(&mut items, site)?;
     Ok(items)

@@ -22,7 +22,7 @@ mod ops_by_number;
 mod site;
 mod size_laws;
 
-pub use branches::branch;
+pub use branches::{branch, jump};
 pub use frame::Frame;
 pub use frame_laws::{frames_support, offsets_are_below};
 pub use function::select_function;

@@ -5,7 +5,7 @@ ghost use Rattle.flow_graph.specs.Sizes.{words_of};
 ghost use Rattle.ia32_rows.specs.Rows.{loop_label, row};
 ghost use Rattle.ia32_select.specs.Sites.{flow_of, placement_of};
 
-use crate::branches::branch;
+use crate::branches::{branch, jump};
 use crate::ops_by_number::{
     call, clear, commuting, difference, division, load, product, set, shift, store,
 };
@@ -13,7 +13,7 @@ use crate::site::{Site, array_at, at};
 use flow_graph::Op;
 use ia32_emit::{
     emit, emit_complement, emit_copy, emit_exit, emit_frame_array, emit_get, emit_getchar,
-    emit_half, emit_jump, emit_leave, emit_low, emit_negation, emit_number, emit_param, emit_put,
+    emit_half, emit_leave, emit_low, emit_negation, emit_number, emit_param, emit_put,
     emit_putchar, emit_return, emit_same, emit_static, emit_wide,
 };
 use ia32_insn::{AluOp, Insn, Item, Reg32, ShiftOp};
@@ -59,9 +59,9 @@ pub fn emit_op(out: &mut Vec<Item>, site: &Site<'_>, point: u32, op: &Op) -> Res
         Op::Exit(status) => emit_exit(out, at(site, status)),
         Op::Same(first, second) => emit_same(out, at(site, first), at(site, second)),
         Op::Mark(_) | Op::Turn => emit(out, Insn::Nop),
-        Op::Jump(block) => emit_jump(out, *block),
+        Op::Jump(block) => jump(out, site, point, *block),
         Op::Branch(how, first, second, taken, other) => branch(
-            out, site, *how, first, second, *taken, *other,
+            out, site, point, *how, first, second, *taken, *other,
         ),
         Op::Return(Some(from)) => emit_return(out, at(site, from)),
         Op::Return(None) => emit_leave(out),

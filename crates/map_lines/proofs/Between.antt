@@ -19,7 +19,7 @@ use Rattle.flow_graph.specs.WellFormed.{IsWaiting}
 use Rattle.flow_graph.proofs.Values.{graph-of}
 use Rattle.ia32_rows.specs.Placements.{Code, Placement, address_in, placement_of, point_address}
 use Rattle.ia32_rows.specs.Shows.{IsInside, ReturnsTo}
-use Rattle.ia32_rows.specs.Rows.{behind_call, selected}
+use Rattle.ia32_rows.specs.Rows.{behind_call, selected, moves_to}
 use Rattle.ia32_rows.proofs.ItemKinds.{item-room, later, point-address}
 use Rattle.ia32_rows.proofs.Laid.{point-among}
 use Rattle.ia32_laws.specs.Supports.{site_of}
@@ -150,12 +150,15 @@ returns-within code w younger address q is_selected below waits returns next =
     let f : ℕ = w.activation.function in
     let b = calls-return code w waits.result younger.function waits.words address is_selected below waits.placed
     waits.calls returns in
-    let behind : List Item = behind_call (place_behind code f w.point waits.result) (length waits.words) in
+    let row : List Item = behind_call (place_behind code f w.point waits.result) (length waits.words) in
+    let moves : List Item = moves_to (placement_of code f) w.point (Some q) in
+    let behind : List Item = row ++ moves in
     let more = b.follows q next in
     let stand : ItemsAt (site_of code f).symbols (site_of code f).places address (behind ++ (item.Point q ∷ more.0))
     b.stands.bytes =
-    subst (λ (rest : List Item). ItemsAt (site_of code f).symbols (site_of code f).places address (behind ++ rest)
-    b.stands.bytes) more.1 b.stands.stand in
+    subst (λ (items : List Item). ItemsAt (site_of code f).symbols (site_of code f).places address items b.stands.bytes)
+    (ap (λ (rest : List Item). row ++ rest) more.1 ∙ sym (append_assoc row moves (item.Point q ∷ more.0)))
+    b.stands.stand in
     subst (λ (n : ℕ). address ≤ n) (sym (address-at code.places f q))
     (later (site_of code f).symbols (site_of code f).places address (behind ++ (item.Point q ∷ more.0)) b.stands.bytes
     (length behind) q stand (get-seam behind (item.Point q) more.0))

@@ -223,6 +223,8 @@ points-ruled stand program homes code k f flow h is at =
       address = where-at p (op.Mark n) within has;
       op = record { fits = tt; names = tt; numbers = all-at NumbersFit flow.ops p (op.Mark n) flows.numbers has };
       listed = tt;
+      areas = refl;
+      pieces = refl;
       before = (
         All-from_recursion (IsStanding (variables_over f flow)) (standings_from 0 mine)
             (standings-ruled (variables_over f flow) (frame_bytes flow) 0 mine
@@ -253,6 +255,8 @@ points-ruled stand program homes code k f flow h is at =
         numbers = tt;
       };
       listed = tt;
+      areas = refl;
+      pieces = refl;
       before = (All-from_recursion (IsStanding (variables_over f flow)) [] tt, tt);
       after = refl;
       spilled = refl;

@@ -34,7 +34,16 @@ variables_before f n = length (local_widths (take (declared_before f n) f.locals
 
 abbrev pub point_of : ℕ → ℕ → Op → List Standing → MapPoint
 point_of number address op before =
-    record { number = number; address = address; op = op; before = before; after = []; spilled = [] }
+    record {
+      number = number;
+      address = address;
+      op = op;
+      areas = [];
+      pieces = [];
+      before = before;
+      after = [];
+      spilled = [];
+    }
 
 -- At a mark the locals stand in their slots that are declared before its statement, and at a call nothing is listed. No
 -- other op has a point in the map.
