@@ -1,0 +1,14 @@
+mod Lists
+mod Apart
+mod Beside
+mod Single
+mod Keeping
+mod Reaching
+mod PlaceKinds
+mod Advancing
+mod Stuck
+mod Counting
+mod Starting
+mod Doing
+mod SpelledCopies
+mod LegalMoves

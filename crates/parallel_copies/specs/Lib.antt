@@ -1,0 +1,4 @@
+pub mod Overlap
+pub mod Copies
+pub mod Steps
+pub mod Tests
