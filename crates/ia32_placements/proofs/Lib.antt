@@ -1,0 +1,12 @@
+pub mod Spots
+pub mod Free
+pub mod Boards
+pub mod Sides
+pub mod FixedPieces
+pub mod Frames
+pub mod Supported
+pub mod Edges
+pub mod Whole
+pub mod Example
+pub mod Few
+pub mod Moving

@@ -1,0 +1,4 @@
+pub mod Standings
+pub mod Placed
+pub mod Laws
+pub mod Worked
