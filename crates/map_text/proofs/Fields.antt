@@ -60,7 +60,7 @@ number-one n m r s small small' stop stop' e =
     e in
     (decimal_injective n m k k' fields.0, fields.1)
 
-hexadecimal-length : (k n : ℕ) → length (hexadecimal k n) ≡ k
+pub hexadecimal-length : (k n : ℕ) → length (hexadecimal k n) ≡ k
 hexadecimal-length zero n = refl
 hexadecimal-length (suc k) n = rw (
   length-append (hexadecimal k (n / 16)) (hexadecimal_digit (n % 16) ∷ []),
@@ -72,7 +72,7 @@ digit-one : (d e : ℕ) → d < 16 → e < 16 → hexadecimal_digit d ≡ hexade
 digit-one d e small small' same = grind (arith, nat_tests)
 
 -- a number with one digit less
-sixteenth : (k n : ℕ) → n < 16 ^ suc k → n / 16 < 16 ^ k
+pub sixteenth : (k n : ℕ) → n < 16 ^ suc k → n / 16 < 16 ^ k
 sixteenth k n small = let p : 16 ^ suc k ≡ 16 ^ k * 16 = pow-suc 16 k in omega arith
 
 -- numbers that fit the digits are told by them

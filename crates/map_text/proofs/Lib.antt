@@ -1,9 +1,21 @@
 pub mod Calls
 pub mod Fields
+pub mod FieldsRead
 pub mod Hexadecimal
 pub mod LineRules
+pub mod LinesRead
 pub mod LocalNames
+pub mod MapLines
+pub mod Numbers
 pub mod OneMap
 pub mod OneText
+pub mod OpsRead
 pub mod Places
+pub mod Plain
 mod TextLines
+pub mod Printed
+pub mod PrintedHeads
+pub mod PrintedLines
+pub mod SameLines
+pub mod TreesRead
+pub mod WholeMaps

@@ -1,21 +1,22 @@
 -- A map's text determines the map: its lines determine its tree.
-use Rattle.std.proofs.Common.{◌≡◌, ◌<◌, ◌≤◌, ◌^◌, ℕ, zero, suc, ◌+◌, List, [], ◌∷◌, ◌++◌, length, map, flat_map, refl}
+use Rattle.std.proofs.Common.{◌≡◌, ◌≤◌, ◌^◌, ℕ, suc, ◌+◌, List, [], ◌∷◌, ◌++◌, length, map, flat_map, refl}
 use Rattle.std.proofs.Common.{sym, ap, ◌∙◌, arith, append_assoc, inl, inr, subst}
 use Rattle.std.specs.Prelude.{⊤, ◌⊎◌, Option, Some, None}
-use Rattle.std.specs.List.{All, AllByRecursion}
+use Rattle.std.specs.List.{AllByRecursion}
 use Rattle.std.proofs.lemmas.List.{append-nil, length-map}
 use Rattle.std.proofs.lemmas.List.Elements.{recursion_from_All, All-from_recursion}
+use Rattle.puzzle_board.specs.declared.area.Area.{Area}
+use Rattle.puzzle_board.specs.declared.piece.Piece.{Piece}
 use Rattle.flow_graph.specs.declared.op.Op.{Op}
 use Rattle.flow_graph.specs.declared.op.Op.TheVariants as op
 use Rattle.flow_graph.specs.Graphs.{Flow, IsMet}
 use Rattle.flow_graph.specs.Shapes.{two, two_if_any}
 use Rattle.std.proofs.lemmas.Option.{slice_get_within}
 use Rattle.pcc_base.specs.declared.run.Width.{Width}
-use Rattle.pcc_base.specs.declared.run.Width.TheVariants.{One, Two}
+use Rattle.pcc_base.specs.declared.run.Width.TheVariants.{Two}
 use Rattle.pcc_base.proofs.Lists.{all-append}
 use Rattle.map_text.proofs.LineRules.{AreLines, IsAnyNumber, IsLine, IsOpText, IsStandingText}
 use Rattle.map_text.proofs.OneText.{text-one}
-use Rattle.ia32_insn.specs.Places.{IsPlace, Place, InWord, InByte, InSlot}
 use Rattle.map_text.specs.Maps.{Map, MapObject, MapFunction, MapArray, MapVariable, MapPoint, Standing, IsMap}
 use Rattle.map_text.specs.Maps.{IsMapFunction, IsMapPoint, IsListed, IsMapObject, IsMapArray, IsMapVariable, IsMapOp}
 use Rattle.map_text.specs.Maps.{IsNumber, IsStanding, Named, flow_of, points_of}
@@ -92,25 +93,40 @@ each-one {X = X} Of line is same k (x ∷ xs) (y ∷ ys) r s end end' e =
 
 -- ---- points
 
--- a point without variables after it and without spilled ones
-abbrev pub IsShort : MapPoint → Type 0
-IsShort p = (p.after ≡ []) × (p.spilled ≡ [])
+-- a point without a board, without variables after it and without spilled ones
+pub record IsShort (p : MapPoint) : Type 0 where
+  pub areas : p.areas ≡ []
+  pub pieces : p.pieces ≡ []
+  pub after : p.after ≡ []
+  pub spilled : p.spilled ≡ []
+
+abbrev short_point : ℕ → ℕ → Op → List Standing → MapPoint
+short_point n a o b =
+    record { number = n; address = a; op = o; areas = []; pieces = []; before = b; after = []; spilled = [] }
 
 point-made : (n a : ℕ) (o : Op) (b : List Standing) (n' a' : ℕ) (o' : Op) (b' : List Standing) → PointLine n a o
-    ≡ PointLine n' a' o' → b ≡ b'
-    → ◌≡◌ {A = MapPoint} (record { number = n; address = a; op = o; before = b; after = []; spilled = [] })
-    (record { number = n'; address = a'; op = o'; before = b'; after = []; spilled = [] })
+    ≡ PointLine n' a' o' → b ≡ b' → short_point n a o b ≡ short_point n' a' o' b'
 point-made n a o b n' a' o' b' e same = let h : n ≡ n' = cc in let i : a ≡ a' = cc in let j : o ≡ o' = cc in
     cc (h, i, j, same)
 
-short : (p : MapPoint) → IsShort p → p ≡ record
-    { number = p.number; address = p.address; op = p.op; before = p.before; after = []; spilled = [] }
-short p is = made p.number p.address p.op p.before p.after p.spilled is.0 is.1
+short : (p : MapPoint) → IsShort p → p ≡ short_point p.number p.address p.op p.before
+short p is =
+    made p.number p.address p.op p.areas p.pieces p.before p.after p.spilled is.areas is.pieces is.after is.spilled
   where
-    made : (n a : ℕ) (o : Op) (b c : List Standing) (d : List ℕ) → c ≡ [] → d ≡ []
-        → ◌≡◌ {A = MapPoint} (record { number = n; address = a; op = o; before = b; after = c; spilled = d })
-        (record { number = n; address = a; op = o; before = b; after = []; spilled = [] })
-    made n a o b c d e h = cc
+    made : (n a : ℕ) (o : Op) (t : List Area) (u : List Piece) (b c : List Standing) (d : List ℕ) → t ≡ [] → u ≡ []
+        → c ≡ [] → d ≡ []
+        → ◌≡◌ {A = MapPoint} (record {
+          number = n;
+          address = a;
+          op = o;
+          areas = t;
+          pieces = u;
+          before = b;
+          after = c;
+          spilled = d;
+        })
+        (short_point n a o b)
+    made n a o t u b c d e f g h = cc
 
 point-same : (p q : MapPoint) → IsShort p → IsShort q → PointLine p.number p.address p.op
     ≡ PointLine q.number q.address q.op → BeforeLine p.before ≡ BeforeLine q.before → p ≡ q
@@ -255,7 +271,10 @@ lines-one a b is is' e =
 short-points : (m : Map) (f : MapFunction) (ps : List MapPoint) → AllByRecursion (IsMapPoint m f) ps
     → AllByRecursion IsShort ps
 short-points m f [] all = tt
-short-points m f (p ∷ ps) all = ((all.0.after, all.0.spilled), short-points m f ps all.1)
+short-points m f (p ∷ ps) all = (
+  record { areas = all.0.areas; pieces = all.0.pieces; after = all.0.after; spilled = all.0.spilled },
+  short-points m f ps all.1,
+)
 
 short-function : (m : Map) (f : MapFunction) → IsMapFunction m f → IsShortFunction f
 short-function m f is =

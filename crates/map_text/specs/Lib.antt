@@ -1,5 +1,10 @@
 pub mod Lines
 pub mod Maps
+pub mod Rules
+pub mod Words
+pub mod Fields
+pub mod Reading
+pub mod Entries
 pub mod Marks
 pub mod Views
 pub mod Worked

@@ -6,6 +6,8 @@ use Rattle.std.specs.List.{All}
 use Rattle.pcc_base.specs.Names.{IsName}
 use Rattle.pcc_base.specs.declared.run.Width.{Width}
 use Rattle.pcc_base.specs.declared.run.Width.TheVariants.{One, Two}
+use Rattle.puzzle_board.specs.declared.area.Area.{Area}
+use Rattle.puzzle_board.specs.declared.piece.Piece.{Piece}
 use Rattle.ia32_insn.specs.Places.{Place, InWord, InByte, InSlot, IsPlace}
 use Rattle.flow_graph.specs.declared.op.Op.{Op}
 use Rattle.flow_graph.specs.declared.op.Op.TheVariants as op
@@ -43,11 +45,14 @@ pub record Standing : Type 0 where
   pub variable : ℕ
   pub place : Place
 
--- a point of the graph: its op, where variables stand before it and after it, and those that are spilled there
+-- a point of the graph: its op, the areas and the pieces of its board, where variables stand before it and after it, and
+-- those that are spilled there
 pub record MapPoint : Type 0 where
   pub number : ℕ
   pub address : ℕ
   pub op : Op
+  pub areas : List Area
+  pub pieces : List Piece
   pub before : List Standing
   pub after : List Standing
   pub spilled : List ℕ
@@ -149,12 +154,14 @@ IsListed (op.Mark s) = ⊤
 IsListed (op.Call d f arguments) = ⊤
 IsListed _ = ⊥
 
--- So far a point has no variables after it and none that are spilled.
+-- So far a point has no board, no variables after it and none that are spilled.
 pub record IsMapPoint (m : Map) (f : MapFunction) (p : MapPoint) : Type 0 where
   pub number : IsNumber p.number
   pub address : IsNumber p.address
   pub op : IsMapOp m f p.op
   pub listed : IsListed p.op
+  pub areas : p.areas ≡ []
+  pub pieces : p.pieces ≡ []
   pub before : AreStandings f.variables p.before
   pub after : p.after ≡ []
   pub spilled : p.spilled ≡ []

@@ -22,12 +22,30 @@ variable width named = record { width = width; named = named }
 -- a mark at an address
 abbrev pub point : ℕ → ℕ → List Standing → MapPoint
 point address statement before =
-    record { number = 0; address = address; op = Mark statement; before = before; after = []; spilled = [] }
+    record {
+      number = 0;
+      address = address;
+      op = Mark statement;
+      areas = [];
+      pieces = [];
+      before = before;
+      after = [];
+      spilled = [];
+    }
 
 -- a call of function 1 at an address
 abbrev pub call_point : ℕ → MapPoint
 call_point address =
-    record { number = 1; address = address; op = Call None 1 []; before = []; after = []; spilled = [] }
+    record {
+      number = 1;
+      address = address;
+      op = Call None 1 [];
+      areas = [];
+      pieces = [];
+      before = [];
+      after = [];
+      spilled = [];
+    }
 
 abbrev pub worked_standings : List Standing
 worked_standings =

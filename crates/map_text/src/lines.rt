@@ -4,24 +4,19 @@ ghost use Rattle.std.specs.Prelude.{◌≡◌, ◌∷◌, [], ◌++◌, OnOk, co
 ghost use Rattle.pcc_base.specs.Ascii.{newline};
 ghost use Rattle.flow_graph.specs.declared.op.Op.TheVariants as op;
 ghost use Rattle.map_text.specs.Lines.{
-  ArrayLine,
   BeforeLine,
-  FunctionLine,
-  ObjectLine,
   PointLine,
-  VariableLine,
   address_text,
   argument_text,
   if_any_text,
   line_text,
-  named_text,
   op_text,
   standing_text,
-  width_text,
 };
-ghost use Rattle.map_text.specs.Views.{line_of, named_of, standing_of};
+ghost use Rattle.map_text.specs.Views.{line_of, standing_of};
 
 use crate::digits::{push_address, push_number};
+use crate::head_lines::{push_array, push_function, push_object, push_variable};
 use flow_graph::Words;
 use pcc_base::{Name, NoMemory, Width};
 
@@ -111,111 +106,6 @@ fn push_standings(out: &mut Vec<u8>, standings: &[Standing]) -> Result<(), NoMem
     Ok(())
 }
 
-/// Puts the name of a variable at the end.
-fn push_name(out: &mut Vec<u8>, name: &Named) -> Result<(), NoMemory>
-    ensures { OnOk result (out.new.items ≡ out.old.items ++ named_text (named_of name.now)) }
-{
-    match name {
-        Named::Scalar(name) => out.extend_from_slice(name.as_bytes())?,
-        Named::Array(name) => {
-            out.extend_from_slice(name.as_bytes())?;
-            out.extend_from_slice(b".base")?;
-        }
-        Named::Index(name) => {
-            out.extend_from_slice(name.as_bytes())?;
-            out.extend_from_slice(b".index")?;
-        }
-        Named::Temporary => out.extend_from_slice(b"-")?,
-    }
-    Ok(())
-}
-
-/// Puts a width at the end.
-fn push_width(out: &mut Vec<u8>, width: Width) -> Result<(), NoMemory>
-    ensures { OnOk result (out.new.items ≡ out.old.items ++ width_text width) }
-{
-    match width {
-        Width::One => out.extend_from_slice(b"1")?,
-        Width::Two => out.extend_from_slice(b"2")?,
-    }
-    Ok(())
-}
-
-/// Puts the line of a static object at the end: its address, its elements, and the bytes of one.
-fn push_object(
-    out: &mut Vec<u8>,
-    number: u32,
-    address: u32,
-    count: u32,
-    bytes: u32,
-) -> Result<(), NoMemory>
-    ensures { OnOk result (
-        out.new.items ≡ out.old.items ++ line_text (ObjectLine number address count bytes)) }
-{
-    out.extend_from_slice(b"object ")?;
-    push_number(out, u64::from(number))?;
-    out.extend_from_slice(b" ")?;
-    push_address(out, address)?;
-    out.extend_from_slice(b" ")?;
-    push_number(out, u64::from(count))?;
-    out.extend_from_slice(b" ")?;
-    push_number(out, u64::from(bytes))?;
-    out.extend_from_slice(b"\n")?;
-    Ok(())
-}
-
-/// Puts the line of a function at the end: its name, and the bytes of its frame.
-fn push_function(out: &mut Vec<u8>, number: u32, name: &Name, frame: u32) -> Result<(), NoMemory>
-    ensures { OnOk result (out.new.items ≡ out.old.items ++ line_text (FunctionLine number name.now frame)) }
-{
-    out.extend_from_slice(b"function ")?;
-    push_number(out, u64::from(number))?;
-    out.extend_from_slice(b" ")?;
-    out.extend_from_slice(name.as_bytes())?;
-    out.extend_from_slice(b" frame ")?;
-    push_number(out, u64::from(frame))?;
-    out.extend_from_slice(b"\n")?;
-    Ok(())
-}
-
-/// Puts the line of a frame array at the end: how far below EBP it is, its elements, and the bytes of one.
-fn push_array(
-    out: &mut Vec<u8>,
-    number: u32,
-    below: u32,
-    count: u32,
-    bytes: u32,
-) -> Result<(), NoMemory>
-    ensures { OnOk result (
-        out.new.items ≡ out.old.items ++ line_text (ArrayLine number below count bytes)) }
-{
-    out.extend_from_slice(b"array ")?;
-    push_number(out, u64::from(number))?;
-    out.extend_from_slice(b" -")?;
-    push_number(out, u64::from(below))?;
-    out.extend_from_slice(b" ")?;
-    push_number(out, u64::from(count))?;
-    out.extend_from_slice(b" ")?;
-    push_number(out, u64::from(bytes))?;
-    out.extend_from_slice(b"\n")?;
-    Ok(())
-}
-
-/// Puts the line of a variable at the end.
-fn push_variable(out: &mut Vec<u8>, number: u32, width: Width, name: &Named) -> Result<(), NoMemory>
-    ensures { OnOk result (
-        out.new.items ≡ out.old.items ++ line_text (VariableLine number width (named_of name.now))) }
-{
-    out.extend_from_slice(b"var ")?;
-    push_number(out, u64::from(number))?;
-    out.extend_from_slice(b" ")?;
-    push_width(out, width)?;
-    out.extend_from_slice(b" ")?;
-    push_name(out, name)?;
-    out.extend_from_slice(b"\n")?;
-    Ok(())
-}
-
 /// Puts what the line of a point begins with at the end, up to its op.
 fn push_point(out: &mut Vec<u8>, point: u32, address: u32) -> Result<(), NoMemory>
     ensures { OnOk result (
@@ -300,6 +190,7 @@ fn push_before(out: &mut Vec<u8>, standings: &[Standing]) -> Result<(), NoMemory
 }
 
 /// Puts a line at the end. The only refusal is want of memory.
+#[tactic(auto, using(crate::proofs::SameLines::same_lines))]
 pub fn push_line(out: &mut Vec<u8>, line: &Line) -> Result<(), NoMemory>
     ensures { OnOk result (out.new.items ≡ out.old.items ++ line_text (line_of line.now)) }
 {
