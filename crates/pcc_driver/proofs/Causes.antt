@@ -37,6 +37,8 @@ many_told (commands.Run steps image) old new tokens told = absurd told.0
 many_told (commands.Solve file) old new tokens told = absurd told.0
 many_told (commands.Eval turns sources) old new tokens told = λ f.
     let (texts, are, above) = (told.1 f).1 in (texts, are, (ManyTokens, above))
+many_told (commands.Gen seed) old new tokens told = absurd told.2
+many_told (commands.Least file) old new tokens told = λ f. absurd (told.2 f)
 many_told (commands.ManyFiles count) old new tokens told = tt
 many_told commands.Usage old new tokens told = absurd (no_limit (reports.TooManyTokens tokens) old new told refl)
 
@@ -49,6 +51,8 @@ arrays_told (commands.Run steps image) old new bytes told = absurd told.0
 arrays_told (commands.Solve file) old new bytes told = absurd told.0
 arrays_told (commands.Eval turns sources) old new bytes told = λ f.
     let (texts, are, above) = told.1 f in (texts, are, (LargeArrays bytes, above))
+arrays_told (commands.Gen seed) old new bytes told = absurd told.2
+arrays_told (commands.Least file) old new bytes told = λ f. absurd (told.2 f)
 arrays_told (commands.ManyFiles count) old new bytes told = tt
 arrays_told commands.Usage old new bytes told = absurd (no_limit (reports.LargeArrays bytes) old new told refl)
 
@@ -61,6 +65,8 @@ frame_told (commands.Run steps image) old new function bytes told = absurd told.
 frame_told (commands.Solve file) old new function bytes told = absurd told.0
 frame_told (commands.Eval turns sources) old new function bytes told = λ f.
     let (texts, are, above) = told.1 f in (texts, are, (LargeFrame function.items bytes, above))
+frame_told (commands.Gen seed) old new function bytes told = absurd told.2
+frame_told (commands.Least file) old new function bytes told = λ f. absurd (told.2 f)
 frame_told (commands.ManyFiles count) old new function bytes told = tt
 frame_told commands.Usage old new function bytes told =
     absurd (no_limit (reports.LargeFrame function bytes) old new told refl)
@@ -72,10 +78,26 @@ files_told (commands.Compile name sources) old new count told = λ f. absurd (to
 files_told (commands.Run steps image) old new count told = absurd told.0
 files_told (commands.Solve file) old new count told = absurd told.0
 files_told (commands.Eval turns sources) old new count told = λ f. absurd (told.1 f)
+files_told (commands.Gen seed) old new count told = absurd told.2
+files_told (commands.Least file) old new count told = λ f. absurd (told.2 f)
 files_told (commands.ManyFiles number) old new count told = tt
 files_told commands.Usage old new count told = absurd (no_limit (reports.TooManyFiles count) old new told refl)
 
--- a report of status 3 is of a file that is too long, of sources that are above a limit, or of too many sources
+-- a board that is too large is told of one
+board_told : (command : Command) (old new : Work) (areas pieces : ℕ)
+    → CommandTold command old new (reports.LargeBoard areas pieces) → LimitCause command old.files
+board_told (commands.Compile name sources) old new areas pieces told = λ f. absurd (told.0 f).0
+board_told (commands.Run steps image) old new areas pieces told = absurd told.0
+board_told (commands.Solve file) old new areas pieces told = absurd told.0
+board_told (commands.Eval turns sources) old new areas pieces told = λ f. absurd (told.1 f)
+board_told (commands.Gen seed) old new areas pieces told = absurd told.2
+board_told (commands.Least file) old new areas pieces told = λ f.
+    let (text, held, small, large) = (told.2 f).0 in (text, held, small, (areas, pieces, large))
+board_told (commands.ManyFiles count) old new areas pieces told = tt
+board_told commands.Usage old new areas pieces told =
+    absurd (no_limit (reports.LargeBoard areas pieces) old new told refl)
+
+-- a report of status 3 is of a file that is too long, of sources or a board above a limit, or of too many sources
 limit_report : (report : Report) (command : Command) (old new : Work) → HasCause report old new
     → CommandTold command old new report → status_of report ≡ 3
     → Rose old.files.counts.too_long new.files.counts.too_long ⊎ LimitCause command old.files
@@ -85,6 +107,8 @@ limit_report (reports.LargeArrays bytes) command old new cause told e = inr (arr
 limit_report (reports.LargeFrame name bytes) command old new cause told e =
     inr (frame_told command old new name bytes told)
 limit_report (reports.TooManyFiles count) command old new cause told e = inr (files_told command old new count told)
+limit_report (reports.LargeBoard areas pieces) command old new cause told e =
+    inr (board_told command old new areas pieces told)
 limit_report report command old new cause told e = absurd (omega (arith, e))
 
 -- a report of status 4 is of a fault of reading

@@ -8,9 +8,9 @@ use Rattle.ia32_insn.specs.State.{State}
 use Rattle.ia32_insn.specs.Runs.{Runs, no_visits}
 use Rattle.ia32_insn.proofs.Runs.{run_once}
 use Rattle.ia32_machine.specs.First.{First}
+use Rattle.pcc_gen.specs.Generated.{generated}
 use Rattle.pcc_words.specs.Asked as commands
 use Rattle.pcc_words.specs.Asked.{Command}
-use Rattle.puzzle_solver.specs.Reading.{IsNoBoard}
 use Rattle.pcc_driver.specs.Causes.{HasCause}
 use Rattle.pcc_driver.specs.Ends.{Ends}
 use Rattle.pcc_driver.specs.Outside.{Files, Outside, Output, Work}
@@ -21,11 +21,11 @@ use Rattle.pcc_driver.specs.declared.report.Report.TheVariants as reports
 use Rattle.pcc_driver.proofs.Ends.{ended_status}
 use Rattle.pcc_driver.specs.Sources.{Holds, IsTooLong}
 use Rattle.pcc_driver.proofs.SourcesStatus.{refused_status, typed_status}
+use Rattle.pcc_driver.proofs.BoardStatus.{least_status, solve_status}
 use Rattle.pcc_driver.proofs.EvalStatus.{eval_status}
 use Rattle.pcc_driver.proofs.Causes.{own_status}
-use Rattle.pcc_driver.specs.Answers.{CommandTold, CompileTold, RunTold, SolveTold, RunGives, IsNoImage}
-use Rattle.pcc_driver.specs.Solutions.{IsSomeBoard}
-use Rattle.pcc_driver.specs.Promises.{IsQuiet, TellsEnough, CompileStatus, RunStatus, SolveStatus, HasStatus}
+use Rattle.pcc_driver.specs.Answers.{AnswerPut, CommandTold, CompileTold, RunTold, RunGives, IsNoImage}
+use Rattle.pcc_driver.specs.Promises.{IsQuiet, TellsEnough, CompileStatus, RunStatus, HasStatus}
 use Rattle.ia32_machine.proofs.First.{first-one}
 
 -- ---- the line
@@ -49,8 +49,8 @@ compile_status : (name : List ℕ) (sources : List (List ℕ)) (old new : Outsid
     → CompileTold name sources old.work.files.content new.work.files.content report → IsQuiet old new
     → (status_of report ≡ 11) ⊎ CompileStatus old.work.files.content sources (status_of report)
 compile_status name sources old new reports.Compiled cause told quiet =
-    inr (typed_status old.work.files.content sources told.texts (λ p. 0 ≡ 0) told.program 0 told.sources_read
-    told.accepted refl)
+    inr (typed_status old.work.files.content sources told.texts (λ p. 0 ≡ 0) told.stands.program 0
+    told.sources_read told.stands.accepted refl)
 compile_status name sources old new (reports.WriteFault Map) cause told quiet = absurd (quiet.writes cause.files.0)
 compile_status name sources old new (reports.WriteFault Image) cause told quiet = absurd (quiet.writes cause.files.0)
 compile_status name sources old new reports.NoMemory cause told quiet = inl refl
@@ -85,6 +85,7 @@ compile_status name sources old new (reports.ReadFault file) cause told quiet =
 compile_status name sources old new (reports.WriteFault (Source i)) cause told quiet = absurd told.0
 compile_status name sources old new (reports.WriteFault Board) cause told quiet = absurd told.0
 compile_status name sources old new (reports.TooManyFiles count) cause told quiet = absurd told.0
+compile_status name sources old new (reports.LargeBoard areas pieces) cause told quiet = absurd told.0
 compile_status name sources old new (reports.Exited status) cause told quiet = absurd told.0
 compile_status name sources old new reports.Usage cause told quiet = absurd told.0
 compile_status name sources old new reports.InputFault cause told quiet = absurd told.0
@@ -93,7 +94,7 @@ compile_status name sources old new reports.NotImage cause told quiet = absurd t
 compile_status name sources old new (reports.Trapped trap) cause told quiet = absurd told.0
 compile_status name sources old new (reports.Stopped at address) cause told quiet = absurd told.0
 compile_status name sources old new (reports.BudgetSpent steps) cause told quiet = absurd told.0
-compile_status name sources old new reports.Solved cause told quiet = absurd told.0
+compile_status name sources old new reports.Answered cause told quiet = absurd told.0
 compile_status name sources old new reports.BadBoard cause told quiet = absurd told.0
 
 -- ---- run
@@ -162,6 +163,7 @@ run_status steps content (reports.TooManyTokens tokens) old new cause told quiet
 run_status steps content (reports.LargeArrays bytes) old new cause told quiet = absurd told
 run_status steps content (reports.LargeFrame function bytes) old new cause told quiet = absurd told
 run_status steps content (reports.TooManyFiles count) old new cause told quiet = absurd told
+run_status steps content (reports.LargeBoard areas pieces) old new cause told quiet = absurd told
 run_status steps content (reports.TooLong (Source i)) old new cause told quiet = absurd told
 run_status steps content (reports.TooLong Map) old new cause told quiet = absurd told
 run_status steps content (reports.TooLong Board) old new cause told quiet = absurd told
@@ -171,70 +173,19 @@ run_status steps content (reports.NoFile Board) old new cause told quiet = absur
 run_status steps content reports.Compiled old new cause told quiet = absurd told
 run_status steps content (reports.SourceFault fault) old new cause told quiet = absurd told
 run_status steps content reports.Usage old new cause told quiet = absurd told
-run_status steps content reports.Solved old new cause told quiet = absurd told
+run_status steps content reports.Answered old new cause told quiet = absurd told
 run_status steps content reports.BadBoard old new cause told quiet = absurd told
 
--- ---- solve
+-- ---- gen
 
-absent_status : (content : Option (List ℕ)) → content ≡ None → SolveStatus content 6
-absent_status content e = rw e refl
-
-large_status : (content : Option (List ℕ)) → IsTooLong content → SolveStatus content 3
-large_status content long =
-    rw long.1 (
-      λ h. refl,
-      λ h board. absurd (omega (arith, long.2, h)),
-      λ h none. absurd (omega (arith, long.2, h)),
-    )
-
-solved_status : (content : Option (List ℕ)) → Holds content IsSomeBoard → SolveStatus content 0
-solved_status content held =
-    rw held.1 (
-      λ h. absurd (omega (arith, held.2, h)),
-      λ h board. refl,
-      λ h none. absurd (none held.3.0 held.3.1 held.3.2.numbered held.3.2.text_is),
-    )
-
-no_board_status : (content : Option (List ℕ)) → Holds content IsNoBoard → SolveStatus content 1
-no_board_status content held =
-    rw held.1 (
-      λ h. absurd (omega (arith, held.2, h)),
-      λ h board. absurd (held.3 board.0 board.1 board.2.numbered board.2.text_is),
-      λ h none. refl,
-    )
-
--- the report on a board has the status of the file
-solve_status : (content : Option (List ℕ)) (report : Report) (old new : Outside) → HasCause report old.work new.work
-    → SolveTold content old.work.out new.work.out report → IsQuiet old new
-    → (status_of report ≡ 11) ⊎ SolveStatus content (status_of report)
-solve_status content reports.Solved old new cause told quiet =
-    inr (solved_status content (told.0, told.1, told.2, (told.3.1.0, told.3.1.1, told.3.1.2)))
-solve_status content reports.BadBoard old new cause told quiet = inr (no_board_status content told.0)
-solve_status content (reports.TooLong Board) old new cause told quiet = inr (large_status content told.0)
-solve_status content (reports.NoFile Board) old new cause told quiet = inr (absent_status content told.0)
-solve_status content (reports.ReadFault file) old new cause told quiet = absurd (quiet.reads cause.files.0)
-solve_status content reports.OutputFault old new cause told quiet = absurd (quiet.output cause.streams.1)
-solve_status content reports.NoMemory old new cause told quiet = inl refl
-solve_status content (reports.LargeArrays bytes) old new cause told quiet = absurd told
-solve_status content (reports.LargeFrame function bytes) old new cause told quiet = absurd told
-solve_status content (reports.TooManyFiles count) old new cause told quiet = absurd told
-solve_status content (reports.TooLong (Source i)) old new cause told quiet = absurd told
-solve_status content (reports.TooLong Map) old new cause told quiet = absurd told
-solve_status content (reports.TooLong Image) old new cause told quiet = absurd told
-solve_status content (reports.NoFile (Source i)) old new cause told quiet = absurd told
-solve_status content (reports.NoFile Map) old new cause told quiet = absurd told
-solve_status content (reports.NoFile Image) old new cause told quiet = absurd told
-solve_status content reports.Compiled old new cause told quiet = absurd told
-solve_status content (reports.Exited status) old new cause told quiet = absurd told
-solve_status content (reports.SourceFault fault) old new cause told quiet = absurd told
-solve_status content reports.Usage old new cause told quiet = absurd told
-solve_status content (reports.TooManyTokens tokens) old new cause told quiet = absurd told
-solve_status content reports.InputFault old new cause told quiet = absurd told
-solve_status content (reports.WriteFault file) old new cause told quiet = absurd told
-solve_status content reports.NotImage old new cause told quiet = absurd told
-solve_status content (reports.Trapped trap) old new cause told quiet = absurd told
-solve_status content (reports.Stopped at address) old new cause told quiet = absurd told
-solve_status content (reports.BudgetSpent steps) old new cause told quiet = absurd told
+-- the report of an answer that was put says that the command did its work
+answer_status : (answer : List ℕ) (report : Report) (old new : Outside) → HasCause report old.work new.work
+    → AnswerPut answer old.work.out new.work.out report → IsQuiet old new
+    → (status_of report ≡ 11) ⊎ (status_of report ≡ 0)
+answer_status answer reports.Answered old new cause told quiet = inr refl
+answer_status answer reports.OutputFault old new cause told quiet = absurd (quiet.output cause.streams.1)
+answer_status answer reports.NoMemory old new cause told quiet = inl refl
+answer_status answer report old new cause told quiet = absurd told
 
 -- ---- every command
 
@@ -251,6 +202,10 @@ report_status (commands.Eval turns sources) report old new cause told enough qui
     quiet.output
 report_status (commands.Solve file) report old new cause told f quiet =
     solve_status (old.work.files.content file) report old new cause (told.3 f) quiet
+report_status (commands.Gen number) report old new cause told enough quiet =
+    answer_status (generated number) report old new cause told.2 quiet
+report_status (commands.Least file) report old new cause told f quiet =
+    least_status (old.work.files.content file) report old new cause (told.2 f) quiet
 report_status (commands.ManyFiles count) report old new cause told enough quiet =
     own_status (reports.TooManyFiles count) report old.work new.work told
 report_status commands.Usage report old new cause told enough quiet =

@@ -13,3 +13,5 @@ pub mod Wanting
 pub mod Written
 pub mod EvalStatus
 pub mod EvalTold
+pub mod BoardStatus
+pub mod Removing

@@ -39,6 +39,7 @@ no_machine_told steps (reports.TooManyTokens tokens) content image old new same 
 no_machine_told steps (reports.LargeArrays bytes) content image old new same read small none = absurd none
 no_machine_told steps (reports.LargeFrame name bytes) content image old new same read small none = absurd none
 no_machine_told steps (reports.TooManyFiles count) content image old new same read small none = absurd none
+no_machine_told steps (reports.LargeBoard areas pieces) content image old new same read small none = absurd none
 no_machine_told steps (reports.ReadFault file) content image old new same read small none = absurd none
 no_machine_told steps reports.InputFault content image old new same read small none = absurd none
 no_machine_told steps (reports.WriteFault file) content image old new same read small none = absurd none
@@ -47,7 +48,7 @@ no_machine_told steps (reports.NoFile file) content image old new same read smal
 no_machine_told steps (reports.Trapped trap) content image old new same read small none = absurd none
 no_machine_told steps (reports.Stopped cause address) content image old new same read small none = absurd none
 no_machine_told steps (reports.BudgetSpent spent) content image old new same read small none = absurd none
-no_machine_told steps reports.Solved content image old new same read small none = absurd none
+no_machine_told steps reports.Answered content image old new same read small none = absurd none
 no_machine_told steps reports.BadBoard content image old new same read small none = absurd none
 
 -- such a report says what the file holds

@@ -21,6 +21,8 @@ wanting_told (commands.Compile name sources) work = (λ f. inl (λ other. refl),
 wanting_told (commands.Run steps image) work = (tt, λ f other. refl, λ f. tt, λ f i. inl (refl, refl))
 wanting_told (commands.Eval turns sources) work = (λ f other. refl, λ f. tt, λ f i o. inl (refl, refl))
 wanting_told (commands.Solve file) work = (tt, λ f other. refl, refl, λ f o. refl)
+wanting_told (commands.Gen number) work = (λ f other. refl, refl, λ t. refl)
+wanting_told (commands.Least file) work = (λ f other. refl, refl, λ f o. refl)
 wanting_told (commands.ManyFiles count) work = (inr refl, λ f other. refl, (refl, refl))
 wanting_told commands.Usage work = (inr refl, λ f other. refl, (refl, refl))
 

@@ -29,18 +29,20 @@ pub written_told : (report : Report) (name : List ℕ) (sources texts : List (Li
 written_told reports.Compiled name sources texts map_bytes image old mid new kept read products told =
     record {
       texts = texts;
-      program = products.0;
-      map = products.2.0;
-      image = image;
       sources_read = read;
-      accepted = products.1.0;
-      map_written = told.0 ∙ ap Some products.2.1;
-      image_written = told.1;
-      others = λ other n m. told.2 other n m ∙ kept other;
-      correct = products.2.2;
-      nothing_first = products.2.2.belongs.lowered.first_points products.1.1;
-      small = texts_bound_graphs texts products.0 products.2.2.belongs.code.program products.1.0
-          products.2.2.belongs.lowered.small;
+      stands = record {
+        program = products.0;
+        map = products.2.0;
+        image = image;
+        accepted = products.1.0;
+        map_written = told.0 ∙ ap Some products.2.1;
+        image_written = told.1;
+        others = λ other n m. told.2 other n m ∙ kept other;
+        correct = products.2.2;
+        nothing_first = products.2.2.belongs.lowered.first_points products.1.1;
+        small = texts_bound_graphs texts products.0 products.2.2.belongs.code.program products.1.0
+            products.2.2.belongs.lowered.small;
+      };
     }
 written_told (reports.WriteFault Map) name sources texts map_bytes image old mid new kept read products told =
     λ other n. told other n ∙ kept other
@@ -69,6 +71,8 @@ written_told (reports.LargeFrame function bytes) name sources texts map_bytes im
     absurd told
 written_told (reports.TooManyFiles count) name sources texts map_bytes image old mid new kept read products told =
     absurd told
+written_told (reports.LargeBoard areas pieces) name sources texts map_bytes image old mid new kept read products told =
+    absurd told
 written_told reports.Usage name sources texts map_bytes image old mid new kept read products told = absurd told
 written_told (reports.TooLong file) name sources texts map_bytes image old mid new kept read products told =
     absurd told
@@ -88,7 +92,7 @@ written_told (reports.Stopped cause address) name sources texts map_bytes image 
     told = absurd told
 written_told (reports.BudgetSpent steps) name sources texts map_bytes image old mid new kept read products told =
     absurd told
-written_told reports.Solved name sources texts map_bytes image old mid new kept read products told = absurd told
+written_told reports.Answered name sources texts map_bytes image old mid new kept read products told = absurd told
 written_told reports.BadBoard name sources texts map_bytes image old mid new kept read products told = absurd told
 
 -- the report of sources without a typed program
@@ -105,6 +109,7 @@ refused_told (reports.LargeArrays bytes) name sources old new none same = (none,
 refused_told (reports.LargeFrame function bytes) name sources old new none same = (none, same)
 refused_told (reports.ReadFault file) name sources old new none same = (none, same)
 refused_told (reports.TooManyFiles count) name sources old new none same = (none, same)
+refused_told (reports.LargeBoard areas pieces) name sources old new none same = (none, same)
 refused_told (reports.Exited status) name sources old new none same = (none, same)
 refused_told reports.Usage name sources old new none same = (none, same)
 refused_told reports.InputFault name sources old new none same = (none, same)
@@ -113,5 +118,5 @@ refused_told reports.NotImage name sources old new none same = (none, same)
 refused_told (reports.Trapped trap) name sources old new none same = (none, same)
 refused_told (reports.Stopped at address) name sources old new none same = (none, same)
 refused_told (reports.BudgetSpent steps) name sources old new none same = (none, same)
-refused_told reports.Solved name sources old new none same = (none, same)
+refused_told reports.Answered name sources old new none same = (none, same)
 refused_told reports.BadBoard name sources old new none same = (none, same)

@@ -14,9 +14,10 @@ use Rattle.ia32_machine.specs.declared.ends.MachineEnd.TheVariants as machine
 use Rattle.map_text.specs.Lines.{map_text}
 use Rattle.map_text.specs.Maps as maps
 use Rattle.c_tree.specs.Program.{Program}
+use Rattle.pcc_gen.specs.Generated.{generated}
 use Rattle.pcc_program.specs.Products.{IsImageOf}
 use Rattle.puzzle_solver.specs.Reading.{IsNoBoard}
-use Rattle.pcc_words.specs.Asked.{Command, Compile, Run, Eval, Solve, ManyFiles, Usage, map_name}
+use Rattle.pcc_words.specs.Asked.{Command, Compile, Run, Eval, Solve, Gen, Least, ManyFiles, Usage, map_name}
 use Rattle.pcc_driver.specs.Programs.{HaveTypedProgram, HaveNoProgram}
 use Rattle.pcc_driver.specs.Sources.{AreRead, Holds, IsTooLong}
 use Rattle.pcc_driver.specs.Ends.{IsUnlessMemory}
@@ -27,6 +28,7 @@ use Rattle.pcc_driver.specs.declared.report.Report.{Report}
 use Rattle.pcc_driver.specs.declared.report.Report.TheVariants as reports
 use Rattle.pcc_driver.specs.Evaluations.{EvalTold, SourcesTold}
 use Rattle.pcc_driver.specs.Headline.{IsCompiled}
+use Rattle.pcc_driver.specs.Removals.{IsLargeBoard, IsRemovalOf}
 use Rattle.pcc_driver.specs.Solutions.{IsSolution}
 
 -- ---- compile
@@ -121,12 +123,13 @@ RunGivesPart steps old new image =
 abbrev pub IsNoImage : List ℕ → List ℕ → Type 0
 IsNoImage input image = (s : State) → First image input s → ⊥
 
--- neither an image nor a board has tokens, static objects, frames or sources that may be too many or too large
+-- neither `run` nor `solve` has a limit on tokens, static objects, frames, sources or boards
 abbrev pub HasNoTokens : Report → Type 0
 HasNoTokens (reports.TooManyTokens tokens) = ⊥
 HasNoTokens (reports.LargeArrays bytes) = ⊥
 HasNoTokens (reports.LargeFrame name bytes) = ⊥
 HasNoTokens (reports.TooManyFiles count) = ⊥
+HasNoTokens (reports.LargeBoard areas pieces) = ⊥
 HasNoTokens _ = ⊤
 
 -- what the report of `run` says of the image's file, where files tell
@@ -155,6 +158,15 @@ RunTold steps content old new reports.NoMemory = SameStreams old new
     ⊎ Holds content (RunGivesSoFar steps WritesNext old new)
 RunTold steps content old new _ = ⊥
 
+-- ---- answers on the output
+
+-- the answer was put on the output, or where that failed a prefix of it, or where it found no memory nothing
+abbrev pub AnswerPut : List ℕ → Output → Output → Report → Type 0
+AnswerPut answer old new reports.Answered = old.tells → new.taken ≡ old.taken ++ answer
+AnswerPut answer old new reports.OutputFault = old.tells → (n : ℕ) × (new.taken ≡ old.taken ++ take n answer)
+AnswerPut answer old new reports.NoMemory = old.tells → new.taken ≡ old.taken
+AnswerPut answer old new _ = ⊥
+
 -- ---- solve
 
 -- why a text has no answer
@@ -163,27 +175,42 @@ GivesNoAnswer text reports.BadBoard = IsNoBoard text
 GivesNoAnswer text reports.NoMemory = ⊤
 GivesNoAnswer text _ = ⊥
 
--- the answer was put on the output, or where that failed a prefix of it, or where it found no memory nothing
-abbrev pub AnswerPut : List ℕ → Output → Output → Report → Type 0
-AnswerPut answer old new reports.Solved = old.tells → new.taken ≡ old.taken ++ answer
-AnswerPut answer old new reports.OutputFault = old.tells → (n : ℕ) × (new.taken ≡ old.taken ++ take n answer)
-AnswerPut answer old new reports.NoMemory = old.tells → new.taken ≡ old.taken
-AnswerPut answer old new _ = ⊥
+-- some answer on this text was put, by what answers it, or what the report says of that
+abbrev pub AnswerOnPut : (List ℕ → List ℕ → Type 0) → Output → Output → Report → List ℕ → Type 0
+AnswerOnPut Answers old new report text =
+    (answer : List ℕ) × Answers text answer × AnswerPut answer old new report
 
--- some answer on the board of this text was put, or what the report says of it
-abbrev pub SolutionPut : Output → Output → Report → List ℕ → Type 0
-SolutionPut old new report text = (answer : List ℕ) × IsSolution text answer × AnswerPut answer old new report
+-- the report of a command on a board, by what answers a text and which numbers of areas and pieces are too large, on
+-- what the board's file holds; and what was put on the output where that tells
+abbrev pub BoardTold : (List ℕ → List ℕ → Type 0) → (ℕ → ℕ → List ℕ → Type 0) → Option (List ℕ) → Output → Output
+    → Report → Type 0
+BoardTold Answers IsLarge content old new reports.Answered =
+    Holds content (AnswerOnPut Answers old new reports.Answered)
+BoardTold Answers IsLarge content old new reports.OutputFault =
+    Holds content (AnswerOnPut Answers old new reports.OutputFault)
+BoardTold Answers IsLarge content old new reports.BadBoard = Holds content IsNoBoard × (new.taken ≡ old.taken)
+BoardTold Answers IsLarge content old new (reports.LargeBoard areas pieces) =
+    Holds content (IsLarge areas pieces) × (new.taken ≡ old.taken)
+BoardTold Answers IsLarge content old new (reports.TooLong Board) = IsTooLong content × (new.taken ≡ old.taken)
+BoardTold Answers IsLarge content old new (reports.ReadFault Board) = new.taken ≡ old.taken
+BoardTold Answers IsLarge content old new (reports.NoFile Board) = (content ≡ None) × (new.taken ≡ old.taken)
+BoardTold Answers IsLarge content old new reports.NoMemory = old.tells → new.taken ≡ old.taken
+BoardTold Answers IsLarge content old new _ = ⊥
 
--- the report of `solve` on what the board's file holds, and what was put on the output where that tells
+-- the report of `solve`, for which no board is too large
 abbrev pub SolveTold : Option (List ℕ) → Output → Output → Report → Type 0
-SolveTold content old new reports.Solved = Holds content (SolutionPut old new reports.Solved)
-SolveTold content old new reports.OutputFault = Holds content (SolutionPut old new reports.OutputFault)
-SolveTold content old new reports.BadBoard = Holds content IsNoBoard × (new.taken ≡ old.taken)
-SolveTold content old new (reports.TooLong Board) = IsTooLong content × (new.taken ≡ old.taken)
-SolveTold content old new (reports.ReadFault Board) = new.taken ≡ old.taken
-SolveTold content old new (reports.NoFile Board) = (content ≡ None) × (new.taken ≡ old.taken)
-SolveTold content old new reports.NoMemory = old.tells → new.taken ≡ old.taken
-SolveTold content old new _ = ⊥
+SolveTold content old new report = BoardTold IsSolution (λ areas pieces text. ⊥) content old new report
+
+-- ---- least
+
+-- why a text has no answer
+abbrev pub GivesNoRemoval : List ℕ → Report → Type 0
+GivesNoRemoval text (reports.LargeBoard areas pieces) = IsLargeBoard areas pieces text
+GivesNoRemoval text report = GivesNoAnswer text report
+
+-- the report of `least`
+abbrev pub LeastTold : Option (List ℕ) → Output → Output → Report → Type 0
+LeastTold content old new report = BoardTold IsRemovalOf IsLargeBoard content old new report
 
 -- ---- every command
 
@@ -208,5 +235,11 @@ CommandTold (Solve file) old new report =
     HasNoTokens report × (old.files.tells → SameFiles old.files.content new.files.content)
     × (new.input.left ≡ old.input.left)
     × (old.files.tells → SolveTold (old.files.content file) old.out new.out report)
+CommandTold (Gen number) old new report =
+    (old.files.tells → SameFiles old.files.content new.files.content) × (new.input.left ≡ old.input.left)
+    × AnswerPut (generated number) old.out new.out report
+CommandTold (Least file) old new report =
+    (old.files.tells → SameFiles old.files.content new.files.content) × (new.input.left ≡ old.input.left)
+    × (old.files.tells → LeastTold (old.files.content file) old.out new.out report)
 CommandTold (ManyFiles count) old new report = NothingDone (reports.TooManyFiles count) old new report
 CommandTold Usage old new report = NothingDone reports.Usage old new report

@@ -11,16 +11,14 @@ use Rattle.pcc_words.specs.Asked.{map_name}
 use Rattle.pcc_driver.specs.Outside.{Files}
 use Rattle.pcc_driver.specs.Sources.{AreRead}
 
--- What a compilation leaves: the sources have a typed program, NAME.map holds the text of the map of the image (and a
--- text is the text of one map at most), NAME holds an image that does what the program does by that map, and no other
--- file has changed. In the graphs that the map and the image are of, no variable is live at a function's first point, and
--- they have at most 20 points, 2 argument words and one frame array for each token of the texts.
-pub record IsCompiled (old new : Files) (name : List ℕ) (sources : List (List ℕ)) : Type 0 where
-  pub texts : List (List ℕ)
+-- What stands of the program of some texts: they have a typed program, NAME.map holds the text of the map of the image
+-- (and a text is the text of one map at most), NAME holds an image that does what the program does by that map, and no
+-- other file has changed. In the graphs that the map and the image are of, no variable is live at a function's first
+-- point, and they have at most 20 points, 2 argument words and one frame array for each token of the texts.
+pub record Stands (old new : Files) (name : List ℕ) (texts : List (List ℕ)) : Type 0 where
   pub program : Program
   pub map : Map
   pub image : List ℕ
-  pub sources_read : AreRead old sources texts
   pub accepted : HaveTypedProgram texts program
   pub map_written : new (map_name name) ≡ Some (map_text map)
   pub image_written : new name ≡ Some image
@@ -28,3 +26,9 @@ pub record IsCompiled (old new : Files) (name : List ℕ) (sources : List (List 
   pub correct : IsImageOf program map image
   pub nothing_first : NothingLiveFirst program correct.belongs.code.program
   pub small : AreSmallBeside texts correct.belongs.code.program
+
+-- what a compilation leaves: that of the texts that the sources held
+pub record IsCompiled (old new : Files) (name : List ℕ) (sources : List (List ℕ)) : Type 0 where
+  pub texts : List (List ℕ)
+  pub sources_read : AreRead old sources texts
+  pub stands : Stands old new name texts

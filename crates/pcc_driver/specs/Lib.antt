@@ -10,3 +10,4 @@ pub mod Products
 pub mod Promises
 pub mod Solutions
 pub mod Evaluations
+pub mod Removals

@@ -8,11 +8,12 @@ use Rattle.ia32_machine.specs.First.{First}
 use Rattle.pcc_driver.specs.Evaluations.{EvalStatus}
 use Rattle.pcc_driver.specs.Answers.{IsNoImage}
 use Rattle.puzzle_solver.specs.Reading.{IsNoBoard}
-use Rattle.pcc_words.specs.Asked.{Command, Compile, Run, Eval, Solve, ManyFiles, Usage}
+use Rattle.pcc_words.specs.Asked.{Command, Compile, Run, Eval, Solve, Gen, Least, ManyFiles, Usage}
 use Rattle.pcc_driver.specs.Outside.{Files, Outside, Store, Work}
 use Rattle.pcc_driver.specs.Reports.{end_status}
 use Rattle.pcc_driver.specs.Programs.{SourcesStatus, Excess, Exceed}
-use Rattle.pcc_driver.specs.Sources.{HoldAll, file_limit}
+use Rattle.pcc_driver.specs.Sources.{HoldAll, Holds, file_limit}
+use Rattle.pcc_driver.specs.Removals.{IsLargeBoard}
 use Rattle.pcc_driver.specs.Solutions.{IsSomeBoard}
 
 -- no count of faults rose
@@ -44,22 +45,35 @@ SolveStatus (Some text) status =
     × (length text ≤ file_limit → IsSomeBoard text → status ≡ 0)
     × (length text ≤ file_limit → IsNoBoard text → status ≡ 1)
 
+-- the status of `least` for what the board's file holds
+abbrev pub LeastStatus : Option (List ℕ) → ℕ → Type 0
+LeastStatus None status = status ≡ 6
+LeastStatus (Some text) status =
+    (file_limit < length text → status ≡ 3)
+    × (length text ≤ file_limit → (n m : ℕ) → IsLargeBoard n m text → status ≡ 3)
+    × (length text ≤ file_limit → IsSomeBoard text → ((n m : ℕ) → IsLargeBoard n m text → ⊥) → status ≡ 0)
+    × (length text ≤ file_limit → IsNoBoard text → status ≡ 1)
+
 -- the one status of a command on this where nothing fails
 abbrev pub HasStatus : Command → Work → ℕ → Type 0
 HasStatus (Compile name sources) old status = CompileStatus old.files.content sources status
 HasStatus (Run steps image) old status = RunStatus steps old.input.left (old.files.content image) status
 HasStatus (Eval turns sources) old status = EvalStatus turns old.input.left old.files.content sources status
 HasStatus (Solve file) old status = SolveStatus (old.files.content file) status
+HasStatus (Gen number) old status = status ≡ 0
+HasStatus (Least file) old status = LeastStatus (old.files.content file) status
 HasStatus (ManyFiles count) old status = status ≡ 3
 HasStatus Usage old status = status ≡ 2
 
--- What the status of a command hangs on tells: its files, and the streams that decide how it ends. Words that ask for
--- nothing have their status whatever is told.
+-- What the status of a command hangs on tells: its files, and the streams that decide how it ends. A generated program,
+-- and words that ask for nothing, have their status whatever is told.
 abbrev pub TellsEnough : Command → Work → Type 0
 TellsEnough (Compile name sources) old = old.files.tells
 TellsEnough (Run steps image) old = old.files.tells × old.input.tells
 TellsEnough (Eval turns sources) old = old.files.tells × old.input.tells × old.out.tells
 TellsEnough (Solve file) old = old.files.tells
+TellsEnough (Gen number) old = ⊤
+TellsEnough (Least file) old = old.files.tells
 TellsEnough (ManyFiles count) old = ⊤
 TellsEnough Usage old = ⊤
 
@@ -67,17 +81,20 @@ TellsEnough Usage old = ⊤
 abbrev pub AreAboveLimit : List (List ℕ) → Type 0
 AreAboveLimit texts = (excess : Excess) × Exceed texts excess
 
--- the command has too many sources, or sources that are above a limit, where the files tell
+-- the command has too many sources, or sources or a board that are above a limit, where the files tell
 abbrev pub LimitCause : Command → Store → Type 0
 LimitCause (Compile name sources) files = files.tells → HoldAll files.content sources AreAboveLimit
 LimitCause (Run steps image) files = ⊥
 LimitCause (Eval turns sources) files = files.tells → HoldAll files.content sources AreAboveLimit
 LimitCause (Solve file) files = ⊥
+LimitCause (Gen number) files = ⊥
+LimitCause (Least file) files =
+    files.tells → Holds (files.content file) (λ text. (n m : ℕ) × IsLargeBoard n m text)
 LimitCause (ManyFiles count) files = ⊤
 LimitCause Usage files = ⊥
 
 -- Which count rose where a status comes that the outside causes. Status 3 comes besides where there are too many
--- sources, or where these are above a limit.
+-- sources, or where these or the board are above a limit.
 pub record HasCauses (command : Command) (old new : Outside) (status : ℕ) : Type 0 where
   pub limit : status ≡ 3 → Rose old.work.files.counts.too_long new.work.files.counts.too_long
       ⊎ LimitCause command old.work.files

@@ -19,14 +19,15 @@ use Rattle.pcc_driver.specs.declared.report.Named.TheVariants.{Source, Map, Imag
 use Rattle.pcc_driver.specs.declared.report.Report.{Report}
 use Rattle.pcc_driver.specs.declared.report.Report.TheVariants.{Compiled, Exited, SourceFault, Usage, TooLong}
 use Rattle.pcc_driver.specs.declared.report.Report.TheVariants.{TooManyFiles, TooManyTokens, LargeArrays, LargeFrame}
+use Rattle.pcc_driver.specs.declared.report.Report.TheVariants.{LargeBoard}
 use Rattle.pcc_driver.specs.declared.report.Report.TheVariants.{ReadFault, InputFault, WriteFault, OutputFault, NoFile}
 use Rattle.pcc_driver.specs.declared.report.Report.TheVariants.{NotImage, Trapped, Stopped}
-use Rattle.pcc_driver.specs.declared.report.Report.TheVariants.{BudgetSpent, Solved, BadBoard, NoMemory}
+use Rattle.pcc_driver.specs.declared.report.Report.TheVariants.{BudgetSpent, Answered, BadBoard, NoMemory}
 
 abbrev pub status_of : Report → ℕ
 status_of Compiled = 0
 status_of (Exited status) = 0
-status_of Solved = 0
+status_of Answered = 0
 status_of (SourceFault fault) = 1
 status_of BadBoard = 1
 status_of Usage = 2
@@ -35,6 +36,7 @@ status_of (TooManyTokens tokens) = 3
 status_of (LargeArrays bytes) = 3
 status_of (LargeFrame name bytes) = 3
 status_of (TooManyFiles count) = 3
+status_of (LargeBoard areas pieces) = 3
 status_of (ReadFault file) = 4
 status_of InputFault = 4
 status_of (WriteFault file) = 5
@@ -63,6 +65,8 @@ name_in (commands.Run steps image) named = image
 name_in (commands.Eval turns sources) (Source i) = get_or sources i []
 name_in (commands.Eval turns sources) named = []
 name_in (commands.Solve file) named = file
+name_in (commands.Gen number) named = []
+name_in (commands.Least file) named = file
 name_in (commands.ManyFiles count) named = []
 name_in commands.Usage named = []
 
@@ -93,6 +97,10 @@ fault_text fault = codes ":" ++ decimal fault.at.line ++ codes ":" ++ decimal fa
 abbrev pub frame_text : List ℕ → ℕ → List ℕ
 frame_text name bytes = name ++ (codes " " ++ decimal bytes)
 
+-- how many areas and pieces a board has
+abbrev pub sizes_text : ℕ → ℕ → List ℕ
+sizes_text areas pieces = decimal areas ++ (codes " " ++ decimal pieces)
+
 -- the line without its newline
 abbrev pub report_text : commands.Command → Report → List ℕ
 report_text command Compiled = []
@@ -104,6 +112,7 @@ report_text command (TooManyTokens tokens) = codes "limit 20 Tokens " ++ decimal
 report_text command (LargeArrays bytes) = codes "limit 21 Arrays " ++ decimal bytes
 report_text command (LargeFrame name bytes) = codes "limit 22 Frame " ++ frame_text name.items bytes
 report_text command (TooManyFiles count) = codes "limit 23 Files " ++ decimal count
+report_text command (LargeBoard areas pieces) = codes "limit 32 Board " ++ sizes_text areas pieces
 report_text command (ReadFault file) = codes "read fault " ++ name_in command file
 report_text command InputFault = codes "read fault input"
 report_text command (WriteFault file) = codes "write fault " ++ name_in command file
@@ -113,14 +122,14 @@ report_text command NotImage = codes "not an image"
 report_text command (Trapped trap) = codes "trap " ++ trap_text trap
 report_text command (Stopped cause address) = codes "stopped " ++ stop_text cause address
 report_text command (BudgetSpent steps) = codes "budget " ++ decimal steps
-report_text command Solved = []
+report_text command Answered = []
 report_text command BadBoard = name_in command Board ++ (codes ": " ++ kind_text faults.BadBoard)
 report_text command NoMemory = codes "no memory"
 
--- a compilation that went well and an answer on a board put no line
+-- a compilation that went well and an answer that is put on the output have no line
 abbrev pub is_silent : Report → Bool
 is_silent Compiled = true
-is_silent Solved = true
+is_silent Answered = true
 is_silent _ = false
 
 -- the words mean no command

@@ -4,14 +4,17 @@
 //! report's line on standard error. The promise: a compiled image does exactly what its sources do
 //! (`specs/Headline.antt`), and each status has its cause and its line (`specs/Answers.antt`, `specs/Promises.antt`).
 //!
-//! `pcc` in `src/top.rt` carries the promises, and `compile`, `run`, `evaluated` and `solve` carry out the commands.
-//! `reading` and `typed_sources` have the sources that a command names and their typed program; `report`,
-//! `report_lines` and `finished` how a command went, with its line and status.
+//! `pcc` in `src/top.rt` carries the promises, and `compile`, `run`, `evaluated`, `solve`, `generate` and `least` carry
+//! out the commands; `answered` puts an answer on the output. `reading` and `typed_sources` have the sources that a command
+//! names and their typed program; `report`, `report_lines` and `finished` how a command went, with its line and status.
 #![tactic(auto)]
 
+mod answered;
 mod compile;
 mod evaluated;
 mod finished;
+mod generate;
+mod least;
 mod reading;
 mod report;
 mod report_lines;

@@ -12,7 +12,7 @@ pub enum Named {
     Map,
     /// The image that `compile` writes or `run` reads.
     Image,
-    /// The board that `solve` reads.
+    /// The board that `solve` or `least` reads.
     Board,
 }
 
@@ -37,6 +37,8 @@ pub enum Report {
     LargeFrame { name: Vec<u8>, bytes: u64 },
     /// There are so many sources, more than are read.
     TooManyFiles(u64),
+    /// The board has so many areas and pieces, more than `least` is asked of.
+    LargeBoard { areas: u32, pieces: u32 },
     /// Reading the file failed.
     ReadFault(Named),
     /// Reading the input failed.
@@ -55,8 +57,8 @@ pub enum Report {
     Stopped(Stop, u32),
     /// The program still runs after so many steps, or turns.
     BudgetSpent(u64),
-    /// The answer on the board is put.
-    Solved,
+    /// The answer of the command is put on the output.
+    Answered,
     /// The file is the text of no board.
     BadBoard,
     /// There was no memory.
@@ -69,14 +71,15 @@ impl Report {
         ensures { result ≡ status_of self.now }
     {
         match self {
-            Report::Compiled | Report::Exited(_) | Report::Solved => 0,
+            Report::Compiled | Report::Exited(_) | Report::Answered => 0,
             Report::SourceFault(_) | Report::BadBoard => 1,
             Report::Usage => 2,
             Report::TooLong(_)
             | Report::TooManyTokens(_)
             | Report::LargeArrays(_)
             | Report::LargeFrame { .. }
-            | Report::TooManyFiles(_) => 3,
+            | Report::TooManyFiles(_)
+            | Report::LargeBoard { .. } => 3,
             Report::ReadFault(_) | Report::InputFault => 4,
             Report::WriteFault(_) | Report::OutputFault => 5,
             Report::NoFile(_) => 6,
@@ -92,7 +95,7 @@ impl Report {
     pub fn is_silent(&self) -> bool
         ensures { result ≡ is_silent self.now }
     {
-        matches!(self, Report::Compiled | Report::Solved)
+        matches!(self, Report::Compiled | Report::Answered)
     }
 
     /// Whether the words mean no command.

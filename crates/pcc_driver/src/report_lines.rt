@@ -21,6 +21,7 @@ ghost use Rattle.pcc_driver.specs.Reports.{
   name_in,
   report_line,
   report_text,
+  sizes_text,
   stop_text,
   trap_text,
   word_text,
@@ -65,8 +66,10 @@ fn push_name(out: &mut Vec<u8>, command: &Command<'_>, file: Named) -> Result<()
             Named::Map | Named::Image | Named::Board => {}
         },
         Command::Run { image, .. } => out.extend_from_slice(image.as_bytes())?,
-        Command::Solve { file } => out.extend_from_slice(file.as_bytes())?,
-        Command::ManyFiles(_) | Command::Usage(_) => {}
+        Command::Solve { file } | Command::Least { file } => out.extend_from_slice(
+            file.as_bytes(),
+        )?,
+        Command::Gen { .. } | Command::ManyFiles(_) | Command::Usage(_) => {}
     }
     Ok(())
 }
@@ -174,12 +177,20 @@ fn push_frame(out: &mut Vec<u8>, name: &[u8], bytes: u64) -> Result<(), NoMemory
     push_count(out, b" ", bytes)
 }
 
+/// Puts the numbers of areas and pieces of a board at the end. The only refusal is want of memory.
+fn push_sizes(out: &mut Vec<u8>, areas: u32, pieces: u32) -> Result<(), NoMemory>
+    ensures { OnOk result (out.new.items ≡ out.old.items ++ sizes_text areas pieces) }
+{
+    push_number(out, u64::from(areas))?;
+    push_count(out, b" ", u64::from(pieces))
+}
+
 /// Puts a report's text at the end, without a newline. The only refusal is want of memory.
 fn push_report(out: &mut Vec<u8>, command: &Command<'_>, report: &Report) -> Result<(), NoMemory>
     ensures { OnOk result (out.new.items ≡ out.old.items ++ report_text (meaning command.now) report.now) }
 {
     match report {
-        Report::Compiled | Report::Solved => Ok(()),
+        Report::Compiled | Report::Answered => Ok(()),
         Report::Exited(status) => push_count(out, b"exit ", u64::from(*status)),
         Report::SourceFault(fault) => {
             push_name(out, command, Named::Source(fault.at.file))?;
@@ -194,6 +205,10 @@ fn push_report(out: &mut Vec<u8>, command: &Command<'_>, report: &Report) -> Res
             push_frame(out, name.as_slice(), *bytes)
         }
         Report::TooManyFiles(count) => push_count(out, b"limit 23 Files ", *count),
+        Report::LargeBoard { areas, pieces } => {
+            push_words(out, b"limit 32 Board ")?;
+            push_sizes(out, *areas, *pieces)
+        }
         Report::ReadFault(file) => push_about(out, b"read fault ", command, *file),
         Report::InputFault => push_words(out, b"read fault input"),
         Report::WriteFault(file) => push_about(out, b"write fault ", command, *file),

@@ -1,26 +1,33 @@
 ghost use Rattle.std.specs.Prelude.{◌≡◌, ◌≤◌, ℕ, length, IfOk, MatchResult};
-ghost use Rattle.pcc_outside.specs.Files.{StoreCounts};
-ghost use Rattle.puzzle_solver.specs.Reading.{fresh_board};
-ghost use Rattle.pcc_driver.specs.Answers.{
-  AnswerPut,
-  GivesNoAnswer,
-  HasNoTokens,
-  SolveTold,
-};
+ghost use Rattle.puzzle_solver.specs.Reading.{IsReadAs, fresh_board};
+ghost use Rattle.pcc_driver.specs.Answers.{GivesNoAnswer, HasNoTokens, SolveTold};
 ghost use Rattle.pcc_driver.specs.Causes.{FilesCause, StreamsCause};
 ghost use Rattle.pcc_driver.specs.Outside.{SameFiles, output_of};
 ghost use Rattle.pcc_driver.specs.Solutions.{IsAnswer, IsSolution};
 
+use crate::answered::put_answer;
 use crate::reading::FILE_LIMIT;
 use crate::report::{Named, Report};
 use crate::typed_sources::read_report;
 use pcc_base::{NoMemory, Steps};
-use pcc_outside::{FileStore, Sink, WriteRefusal};
+use pcc_outside::{FileStore, Sink};
 use puzzle_board::Board;
 use puzzle_solver::{BoardRefusal, print_placement, read_board};
 use std::alloc::Global;
 use std::marker::Brand;
 use std::sync::ledger::{Blank, Ledger};
+
+/// The board of a text, or why it has none.
+pub fn board_of<L: Ledger>(alloc: Global, text: &[u8]) -> Result<Board<L>, Report>
+    requires { length text.now ≤ 4294967295 }
+    ensures { MatchResult result (λ board. IsReadAs text.now board) (GivesNoAnswer text.now) }
+{
+    match read_board::<L>(alloc, text) {
+        Ok(board) => Ok(board),
+        Err(BoardRefusal::BadBoard) => Err(Report::BadBoard),
+        Err(BoardRefusal::NoMemory) => Err(Report::NoMemory),
+    }
+}
 
 /// The answer on a board on which nothing stands: the text of a legal placement of its pieces, or `none`. The only
 /// refusal is want of memory.
@@ -46,11 +53,7 @@ fn answer_counted<L: Ledger>(alloc: Global, text: &[u8], blank: Blank) -> Result
     requires one { L.parts ≡ 1 }
     ensures { MatchResult result (λ answer. IsSolution text.now answer.items) (GivesNoAnswer text.now) }
 {
-    let mut board = match read_board::<L>(alloc, text) {
-        Ok(board) => board,
-        Err(BoardRefusal::BadBoard) => return Err(Report::BadBoard),
-        Err(BoardRefusal::NoMemory) => return Err(Report::NoMemory),
-    };
+    let mut board = board_of::<L>(alloc, text)?;
     match answer_on(alloc, &mut board, &mut Steps::<L>::new(blank)) {
         Ok(answer) => Ok(answer),
         Err(NoMemory) => Err(Report::NoMemory),
@@ -63,21 +66,6 @@ fn answer_of(alloc: Global, text: &[u8]) -> Result<Vec<u8>, Report>
     ensures { MatchResult result (λ answer. IsSolution text.now answer.items) (GivesNoAnswer text.now) }
 {
     answer_counted::<Brand>(alloc, text, Blank::new(1))
-}
-
-/// Puts an answer on the output.
-fn put_answer<O: Sink>(answer: &[u8], out: &mut O) -> Report
-    ensures own { HasNoTokens result }
-    ensures files { (counts : StoreCounts) → FilesCause result counts counts }
-    ensures streams { (input : ℕ) → StreamsCause result input input (O.counts out.old) (O.counts out.new) }
-    ensures telling { O.tells out.old → O.tells out.new }
-    ensures put { AnswerPut answer.now (output_of O.Sink out.old) (output_of O.Sink out.new) result }
-{
-    match out.put_all(answer) {
-        Ok(()) => Report::Solved,
-        Err(WriteRefusal::Failed) => Report::OutputFault,
-        Err(WriteRefusal::NoMemory) => Report::NoMemory,
-    }
 }
 
 /// Reads the board of the file, and puts a legal placement of its pieces on the output, or `none` where there is none.

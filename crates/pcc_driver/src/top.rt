@@ -12,6 +12,8 @@ ghost use Rattle.pcc_driver.specs.declared.report.Report.{Report};
 use crate::compile::compile;
 use crate::evaluated::eval;
 use crate::finished::{finish, finish_wanting};
+use crate::generate::generate;
+use crate::least::least;
 use crate::report::Report;
 use crate::run::run;
 use crate::solve::solve;
@@ -44,6 +46,8 @@ fn carry_out<F: FileStore, I: Source, O: Sink>(
         Command::Eval { turns, sources } => {
             eval(alloc, *turns, sources.as_slice(), files, input, out)
         }
+        Command::Gen { number } => generate(alloc, *number, out),
+        Command::Least { file } => least(alloc, file, files, out),
         Command::ManyFiles(count) => Report::TooManyFiles(*count as u64),
         Command::Usage(_) => Report::Usage,
     }
@@ -57,7 +61,7 @@ fn carry_out<F: FileStore, I: Source, O: Sink>(
 /// | 0 | the command did its work |
 /// | 1 | the sources aren't accepted, or the file is no board |
 /// | 2 | the words mean no command |
-/// | 3 | a file has too many bytes, there are too many sources, or they are above another limit |
+/// | 3 | a file has too many bytes, there are too many sources, or they or the board are above another limit |
 /// | 4 | reading a file or the input failed |
 /// | 5 | writing a file, the output or standard error failed |
 /// | 6 | a file isn't there |

@@ -3,11 +3,11 @@ use Rattle.std.proofs.Common.{◌≡◌, ◌≤◌, ℕ, Bool, true, false, List
 use Rattle.std.proofs.Common.{bytes_eq, nat_lt, if◌then◌else◌, arith}
 use Rattle.std.proofs.lemmas.Bool.Decides.{nat_tests}
 use Rattle.clap.specs.Words.{Kinds, Row, Text, all_of, fault_of, first_of, subcommand_of}
-use Rattle.pcc_words.specs.App.{app}
+use Rattle.pcc_words.specs.App.{app, u32_max, u64_max}
 use Rattle.pcc_words.specs.Asked.{Command, Compile, ManyFiles, Usage, HasFewSources, asked_by}
 use Rattle.pcc_words.specs.Asked.{asked_in, asked_unless, clashes, command_of, compile_asked}
 use Rattle.pcc_words.specs.Asked.{eval_asked, eval_command, file_count_limit, number_of, run_asked, run_command}
-use Rattle.pcc_words.specs.Asked.{solve_asked}
+use Rattle.pcc_words.specs.Asked.{gen_asked, gen_command, least_asked, solve_asked}
 
 -- either command
 few_if : (b : Bool) (x y : Command) → HasFewSources x → HasFewSources y → HasFewSources (if b then x else y)
@@ -33,7 +33,7 @@ few_eval_of (Some n) sources = few_below sources (nat_lt file_count_limit (lengt
 few_eval_of None sources = tt
 
 few_eval : (turns : Option Text) (sources : Option (List Text)) → HasFewSources (eval_asked turns sources)
-few_eval (Some turns) (Some sources) = few_eval_of (number_of turns) sources
+few_eval (Some turns) (Some sources) = few_eval_of (number_of u64_max turns) sources
 few_eval (Some turns) None = tt
 few_eval None sources = tt
 
@@ -42,7 +42,7 @@ few_run_of (Some n) image = tt
 few_run_of None image = tt
 
 few_run : (steps image : Option Text) → HasFewSources (run_asked steps image)
-few_run (Some steps) (Some image) = few_run_of (number_of steps) image
+few_run (Some steps) (Some image) = few_run_of (number_of u64_max steps) image
 few_run (Some steps) None = tt
 few_run None image = tt
 
@@ -50,13 +50,27 @@ few_solve : (file : Option Text) → HasFewSources (solve_asked file)
 few_solve (Some file) = tt
 few_solve None = tt
 
+few_gen_of : (number : Option ℕ) → HasFewSources (gen_command number)
+few_gen_of (Some n) = tt
+few_gen_of None = tt
+
+few_gen : (number : Option Text) → HasFewSources (gen_asked number)
+few_gen (Some number) = few_gen_of (number_of u32_max number)
+few_gen None = tt
+
+few_least : (file : Option Text) → HasFewSources (least_asked file)
+few_least (Some file) = tt
+few_least None = tt
+
 few_by : (command : Text) (rows : List Row) → HasFewSources (asked_by command rows)
 few_by command rows =
     few_if (bytes_eq command (codes "compile")) _ _ (few_compile (first_of (codes "NAME") rows)
     (all_of (codes "SRC") rows))
     (few_if (bytes_eq command (codes "run")) _ _ (few_run (first_of (codes "N") rows) (first_of (codes "IMAGE") rows))
     (few_if (bytes_eq command (codes "eval")) _ _ (few_eval (first_of (codes "N") rows) (all_of (codes "SRC") rows))
-    (few_if (bytes_eq command (codes "solve")) _ _ (few_solve (first_of (codes "FILE") rows)) tt)))
+    (few_if (bytes_eq command (codes "solve")) _ _ (few_solve (first_of (codes "FILE") rows))
+    (few_if (bytes_eq command (codes "gen")) _ _ (few_gen (first_of (codes "N") rows))
+    (few_if (bytes_eq command (codes "least")) _ _ (few_least (first_of (codes "FILE") rows)) tt)))))
 
 few_in : (found : Option (Text × List Row)) → HasFewSources (asked_in found)
 few_in (Some matched) = few_by matched.0 matched.1

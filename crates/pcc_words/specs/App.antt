@@ -1,5 +1,5 @@
 -- The command line as `clap` reads it: the commands, and the arguments of each.
-use Rattle.std.specs.Prelude.{[], ◌∷◌, Some, true, codes}
+use Rattle.std.specs.Prelude.{ℕ, [], ◌∷◌, Some, true, codes}
 use Rattle.clap.specs.Lexer.{usize_max}
 use Rattle.clap.specs.Words.{App, Rule, Text, new_app, new_rule, with_rule, with_subcommand}
 use Rattle.clap.specs.declared.builder.action.ArgAction.TheVariants.{Set, Append}
@@ -22,13 +22,20 @@ sources = record (new_rule (codes "SRC")) {
   required = true;
 }
 
+-- the greatest numbers of 32 and of 64 bits
+abbrev pub u32_max : ℕ
+u32_max = 0xffff_ffff
+
+abbrev pub u64_max : ℕ
+u64_max = 0xffff_ffff_ffff_ffff
+
 -- an option that has a number of 64 bits, and one where it isn't there
 abbrev pub number : Text → Text → Rule
 number option standard = record (new_rule (codes "N")) {
   long = Some option;
   action = Some Set;
   defaults = standard ∷ [];
-  parser = Some (Unsigned 0 0xffff_ffff_ffff_ffff);
+  parser = Some (Unsigned 0 u64_max);
 }
 
 -- `--steps N`
@@ -38,6 +45,10 @@ steps = number (codes "steps") (codes "1000000000")
 -- `--turns N`
 abbrev pub turns : Rule
 turns = number (codes "turns") (codes "100000000")
+
+-- `N`, a number of 32 bits that has to be there
+abbrev pub seed : Rule
+seed = record (wanted (codes "N")) { parser = Some (Unsigned 0 u32_max) }
 
 abbrev pub compile : App
 compile = with_rule (with_rule (new_app (codes "compile")) name) sources
@@ -51,11 +62,33 @@ eval = with_rule (with_rule (new_app (codes "eval")) turns) sources
 abbrev pub solve : App
 solve = with_rule (new_app (codes "solve")) (wanted (codes "FILE"))
 
+abbrev pub generate : App
+generate = with_rule (new_app (codes "gen")) seed
+
+abbrev pub least : App
+least = with_rule (new_app (codes "least")) (wanted (codes "FILE"))
+
 -- one of the commands is required; the words don't begin with the program's name
 abbrev pub top : App
 top = record (new_app (codes "pcc")) {
   top = record (new_app (codes "pcc")).top { no_binary_name = true; subcommand_required = true };
 }
 
+-- behind it the commands, in the order of the help
+abbrev pub with_compile : App
+with_compile = with_subcommand top compile.top
+
+abbrev pub with_run : App
+with_run = with_subcommand with_compile run.top
+
+abbrev pub with_eval : App
+with_eval = with_subcommand with_run eval.top
+
+abbrev pub with_solve : App
+with_solve = with_subcommand with_eval solve.top
+
+abbrev pub with_generate : App
+with_generate = with_subcommand with_solve generate.top
+
 abbrev pub app : App
-app = with_subcommand (with_subcommand (with_subcommand (with_subcommand top compile.top) run.top) eval.top) solve.top
+app = with_subcommand with_generate least.top

@@ -6,7 +6,7 @@ use Rattle.std.specs.List.{list_any}
 use Rattle.std.specs.Str.Parse.{digits_value, without_leading_plus}
 use Rattle.clap.specs.ValueTests.{is_unsigned_in}
 use Rattle.clap.specs.Words.{Kinds, Row, Text, all_of, fault_of, first_of, subcommand_of}
-use Rattle.pcc_words.specs.App.{app}
+use Rattle.pcc_words.specs.App.{app, u32_max, u64_max}
 
 pub data Command : Type 0 where
   -- compile the sources, and write NAME.map and NAME
@@ -17,6 +17,10 @@ pub data Command : Type 0 where
   Eval : (turns : ℕ) (sources : List (List ℕ)) → Command
   -- solve the board of the file
   Solve : (file : List ℕ) → Command
+  -- put the generated program of this number on the output
+  Gen : (number : ℕ) → Command
+  -- remove the fewest pieces of the board of the file, so that the others have a legal placement
+  Least : (file : List ℕ) → Command
   -- there are so many sources, more than are read
   ManyFiles : (count : ℕ) → Command
   -- no command
@@ -42,17 +46,17 @@ abbrev pub compile_asked : Option Text → Option (List Text) → Command
 compile_asked (Some name) (Some sources) = compile_command name sources
 compile_asked _ _ = Usage
 
--- a number of 64 bits in decimal digits, behind a `+` or not
-abbrev pub number_of : Text → Option ℕ
-number_of text =
-    if is_unsigned_in 0 0xffff_ffff_ffff_ffff text then Some (digits_value 10 (without_leading_plus text)) else None
+-- a number up to this one in decimal digits, behind a `+` or not
+abbrev pub number_of : ℕ → Text → Option ℕ
+number_of most text =
+    if is_unsigned_in 0 most text then Some (digits_value 10 (without_leading_plus text)) else None
 
 abbrev pub run_command : Option ℕ → List ℕ → Command
 run_command None image = Usage
 run_command (Some n) image = Run n image
 
 abbrev pub run_asked : Option Text → Option Text → Command
-run_asked (Some steps) (Some image) = run_command (number_of steps) image
+run_asked (Some steps) (Some image) = run_command (number_of u64_max steps) image
 run_asked _ _ = Usage
 
 abbrev pub eval_command : Option ℕ → List (List ℕ) → Command
@@ -61,12 +65,24 @@ eval_command (Some n) sources =
     if nat_lt file_count_limit (length sources) then ManyFiles (length sources) else Eval n sources
 
 abbrev pub eval_asked : Option Text → Option (List Text) → Command
-eval_asked (Some turns) (Some sources) = eval_command (number_of turns) sources
+eval_asked (Some turns) (Some sources) = eval_command (number_of u64_max turns) sources
 eval_asked _ _ = Usage
 
 abbrev pub solve_asked : Option Text → Command
 solve_asked None = Usage
 solve_asked (Some file) = Solve file
+
+abbrev pub gen_command : Option ℕ → Command
+gen_command None = Usage
+gen_command (Some n) = Gen n
+
+abbrev pub gen_asked : Option Text → Command
+gen_asked None = Usage
+gen_asked (Some number) = gen_command (number_of u32_max number)
+
+abbrev pub least_asked : Option Text → Command
+least_asked None = Usage
+least_asked (Some file) = Least file
 
 -- the command of this name, by the matches of its arguments
 abbrev pub asked_by : Text → List Row → Command
@@ -74,7 +90,9 @@ asked_by command rows =
     if bytes_eq command (codes "compile") then compile_asked (first_of (codes "NAME") rows) (all_of (codes "SRC") rows)
     else if bytes_eq command (codes "run") then run_asked (first_of (codes "N") rows) (first_of (codes "IMAGE") rows)
     else if bytes_eq command (codes "eval") then eval_asked (first_of (codes "N") rows) (all_of (codes "SRC") rows)
-    else if bytes_eq command (codes "solve") then solve_asked (first_of (codes "FILE") rows) else Usage
+    else if bytes_eq command (codes "solve") then solve_asked (first_of (codes "FILE") rows)
+    else if bytes_eq command (codes "gen") then gen_asked (first_of (codes "N") rows)
+    else if bytes_eq command (codes "least") then least_asked (first_of (codes "FILE") rows) else Usage
 
 abbrev pub asked_in : Option (Text × List Row) → Command
 asked_in None = Usage

@@ -1,7 +1,8 @@
 -- The commands of the code as those of the definition.
 use Rattle.std.specs.Prelude.{map}
 use Rattle.pcc_words.specs.declared.command.Command.{Command}
-use Rattle.pcc_words.specs.declared.command.Command.TheVariants.{Compile, Run, Eval, Solve, ManyFiles, Usage}
+use Rattle.pcc_words.specs.declared.command.Command.TheVariants.{Compile, Run, Eval, Solve, Gen, Least}
+use Rattle.pcc_words.specs.declared.command.Command.TheVariants.{ManyFiles, Usage}
 use Rattle.pcc_words.specs.Asked as asked
 
 abbrev pub meaning : Command → asked.Command
@@ -9,5 +10,7 @@ meaning (Compile name sources) = asked.Compile name.now (map (λ s. s.now) sourc
 meaning (Run steps image) = asked.Run steps image.now
 meaning (Eval turns sources) = asked.Eval turns (map (λ s. s.now) sources.items)
 meaning (Solve file) = asked.Solve file.now
+meaning (Gen number) = asked.Gen number
+meaning (Least file) = asked.Least file.now
 meaning (ManyFiles count) = asked.ManyFiles count
 meaning (Usage text) = asked.Usage

@@ -1,11 +1,12 @@
 //! The command line: the commands, and the arguments of each.
 
-ghost use Rattle.std.specs.Prelude.{◌≡◌, ◌∷◌, ◌++◌, [], Ok, Some, false, IfOk, OnOk};
-ghost use Rattle.clap.specs.Simple.{app_of, new_app, with_rule};
+ghost use Rattle.std.specs.Prelude.{◌≡◌, Some, false, IfOk};
+ghost use Rattle.clap.specs.Simple.{App, app_of, new_app, with_rule, with_subcommand};
 ghost use Rattle.clap.specs.Walk.{rule_of};
 ghost use Rattle.clap.specs.declared.builder.command.Command.TheViews.{out-Command};
 ghost use Rattle.pcc_words.specs.App as apps;
 
+use clap::builder::ValueParser;
 use clap::{Arg, ArgAction, Command, value_parser};
 use std::alloc::{AllocError, Global};
 
@@ -48,32 +49,17 @@ fn number<'a>(alloc: Global, option: &'a str, standard: &'a str, help: &'a str) 
         .help(help)
 }
 
-/// Puts an item behind the others, where there is one.
-fn add<T: Drop>(items: &mut Vec<T>, item: Result<T, AllocError>) -> Result<(), AllocError>
-    ensures { OnOk result ((one : _) × (item ≡ Ok one) × (items.new.items ≡ items.old.items ++ one ∷ [])) }
+/// `N`, a number of 32 bits.
+fn seed<'a>(alloc: Global) -> Arg<'a>
+    ensures { (rule_of result ≡ apps.seed) × (result.global ≡ false) }
 {
-    items.push(item?)?;
-    Ok(())
-}
-
-/// The four items, where each is there.
-fn all_of<T: Drop>(
-    alloc: Global,
-    first: Result<T, AllocError>,
-    second: Result<T, AllocError>,
-    third: Result<T, AllocError>,
-    fourth: Result<T, AllocError>,
-) -> Result<Vec<T>, AllocError>
-    ensures { IfOk result (λ all. (one : _) × (two : _) × (three : _) × (four : _)
-        × (first ≡ Ok one) × (second ≡ Ok two) × (third ≡ Ok three) × (fourth ≡ Ok four)
-        × (all.items ≡ one ∷ two ∷ three ∷ four ∷ [])) }
-{
-    let mut all = Vec::new(alloc);
-    add(&mut all, first)?;
-    add(&mut all, second)?;
-    add(&mut all, third)?;
-    add(&mut all, fourth)?;
-    Ok(all)
+    wanted(
+        alloc,
+        "N",
+        ArgAction::Set,
+        "The number of the program, 4294967295 at most",
+    )
+    .value_parser(ValueParser::unsigned(0, u64::from(u32::MAX)))
 }
 
 /// A command with its first argument.
@@ -147,16 +133,60 @@ fn solve<'a>(alloc: Global) -> Result<Command<'a>, AllocError>
     )
 }
 
-/// All commands, of which one is required.
+/// `gen N`
+fn generate<'a>(alloc: Global) -> Result<Command<'a>, AllocError>
+    ensures { IfOk result (λ c. (app_of c ≡ apps.generate) × ((out-Command c).has_globals ≡ false)) }
+{
+    begun(
+        alloc,
+        "gen",
+        "Prints the generated C program of a number",
+        seed(alloc),
+    )
+}
+
+/// `least FILE`
+fn least<'a>(alloc: Global) -> Result<Command<'a>, AllocError>
+    ensures { IfOk result (λ c. (app_of c ≡ apps.least) × ((out-Command c).has_globals ≡ false)) }
+{
+    begun(
+        alloc,
+        "least",
+        "Prints the fewest pieces without which a board is solvable, and a placement of the others",
+        wanted(alloc, "FILE", ArgAction::Set, "The text of a board"),
+    )
+}
+
+/// The program without its commands, of which one is required.
+fn top<'a>(alloc: Global) -> Command<'a>
+    ensures { app_of result ≡ apps.top }
+{
+    Command::new(alloc, "pcc")
+        .about("A compiler of a subset of C99 to static i386 ELF")
+        .no_binary_name(true)
+        .subcommand_required(true)
+}
+
+/// The program with one more command, where both are there.
+fn with_command<'a>(
+    program: Result<Command<'a>, AllocError>,
+    command: Result<Command<'a>, AllocError>,
+) -> Result<Command<'a>, AllocError>
+    ensures { (some more : App) → IfOk program.entry (λ c. app_of c ≡ some)
+        → IfOk command.entry (λ k. (app_of k ≡ more) × ((out-Command k).has_globals ≡ false))
+        → IfOk result (λ r. app_of r ≡ with_subcommand some more.top) }
+{
+    program?.subcommand(command?)
+}
+
+/// All commands.
 pub fn app<'a>(alloc: Global) -> Result<Command<'a>, AllocError>
     ensures { IfOk result (λ c. app_of c ≡ apps.app) }
 {
-    match all_of(alloc, compile(alloc), run(alloc), eval(alloc), solve(alloc)) {
-        Ok(commands) => Command::new(alloc, "pcc")
-            .about("A compiler of a subset of C99 to static i386 ELF")
-            .no_binary_name(true)
-            .subcommand_required(true)
-            .subcommands(commands),
-        Err(error) => Err(error),
-    }
+    let with_compile = with_command(Ok(top(alloc)), compile(alloc));
+    let with_run = with_command(with_compile, run(alloc));
+    let with_eval = with_command(with_run, eval(alloc));
+    let with_solve = with_command(with_eval, solve(alloc));
+    let with_generate = with_command(with_solve, generate(alloc));
+    with_command(with_generate, least(alloc))
 }

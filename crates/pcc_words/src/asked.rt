@@ -28,6 +28,9 @@ ghost use Rattle.pcc_words.specs.Asked.{
   eval_asked,
   eval_command,
   file_count_limit,
+  gen_asked,
+  gen_command,
+  least_asked,
   map_name,
   number_of,
   run_asked,
@@ -35,6 +38,7 @@ ghost use Rattle.pcc_words.specs.Asked.{
   solve_asked,
   Usage,
 };
+ghost use Rattle.pcc_words.specs.App.{u32_max, u64_max};
 ghost use Rattle.pcc_words.specs.Words.{meaning};
 
 use crate::app::app;
@@ -71,6 +75,8 @@ Commands:
   pcc run [--steps N] IMAGE   runs an image in the machine
   pcc eval [--turns N] SRC..  evaluates C files
   pcc solve FILE              prints a legal placement of a board's pieces, or `none`
+  pcc gen N                   prints the generated C program of the number N
+  pcc least FILE              prints the fewest pieces without which a board is solvable, and places the others
 ";
 
 /// No command, and what is told instead.
@@ -135,7 +141,7 @@ fn compile_of<'a>(
 /// `run`, where the number of steps has 64 bits.
 #[tactic(auto, using(crate::proofs::Numbers::number_is, crate::proofs::Numbers::no_number))]
 fn run_of<'a>(alloc: Global, steps: &str, image: &'a str) -> Result<Command<'a>, NoMemory>
-    ensures { IfOk result (λ c. meaning c ≡ run_command (number_of steps.now) image.now) }
+    ensures { IfOk result (λ c. meaning c ≡ run_command (number_of u64_max steps.now) image.now) }
 {
     match steps.parse::<u64>() {
         Ok(steps) => Ok(Command::Run { steps, image }),
@@ -157,7 +163,7 @@ fn eval_for<'a>(alloc: Global, turns: u64, sources: &[&'a str]) -> Result<Comman
 /// `eval`, where the number of turns has 64 bits.
 #[tactic(auto, using(crate::proofs::Numbers::number_is, crate::proofs::Numbers::no_number))]
 fn eval_of<'a>(alloc: Global, turns: &str, sources: &[&'a str]) -> Result<Command<'a>, NoMemory>
-    ensures { IfOk result (λ c. meaning c ≡ eval_command (number_of turns.now) (map (λ s. s.now) sources.now)) }
+    ensures { IfOk result (λ c. meaning c ≡ eval_command (number_of u64_max turns.now) (map (λ s. s.now) sources.now)) }
 {
     match turns.parse::<u64>() {
         Ok(turns) => eval_for(alloc, turns, sources),
@@ -212,6 +218,39 @@ fn solve_asked<'a>(alloc: Global, matches: &ArgMatches<'a>) -> Result<Command<'a
     }
 }
 
+/// `gen`, where the number has 32 bits.
+#[tactic(auto, using(crate::proofs::Numbers::word_is, crate::proofs::Numbers::no_word))]
+fn gen_of<'a>(alloc: Global, number: &str) -> Result<Command<'a>, NoMemory>
+    ensures { IfOk result (λ c. meaning c ≡ gen_command (number_of u32_max number.now)) }
+{
+    match number.parse::<u32>() {
+        Ok(number) => Ok(Command::Gen { number }),
+        Err(_) => usage(alloc, "N is a number of 32 bits"),
+    }
+}
+
+/// The matches of `gen`.
+#[tactic(auto, using(crate::proofs::Rows::str_row, crate::proofs::Rows::strs_row))]
+fn gen_asked<'a>(alloc: Global, matches: &ArgMatches<'a>) -> Result<Command<'a>, NoMemory>
+    ensures { IfOk result (λ c. meaning c ≡ gen_asked (first_of (codes "N") (rows_of (found_of matches.now)))) }
+{
+    match matches.get_str("N") {
+        Some(number) => gen_of(alloc, number),
+        None => usage(alloc, "N is wanted"),
+    }
+}
+
+/// The matches of `least`.
+#[tactic(auto, using(crate::proofs::Rows::str_row, crate::proofs::Rows::strs_row))]
+fn least_asked<'a>(alloc: Global, matches: &ArgMatches<'a>) -> Result<Command<'a>, NoMemory>
+    ensures { IfOk result (λ c. meaning c ≡ least_asked (first_of (codes "FILE") (rows_of (found_of matches.now)))) }
+{
+    match matches.get_str("FILE") {
+        Some(file) => Ok(Command::Least { file }),
+        None => usage(alloc, "FILE is wanted"),
+    }
+}
+
 /// The command of this name, by the matches of its arguments.
 fn asked_by<'a>(
     alloc: Global,
@@ -225,6 +264,8 @@ fn asked_by<'a>(
         "run" => run_asked(alloc, matches),
         "eval" => eval_asked(alloc, matches),
         "solve" => solve_asked(alloc, matches),
+        "gen" => gen_asked(alloc, matches),
+        "least" => least_asked(alloc, matches),
         _ => usage(alloc, "a command is wanted"),
     }
 }

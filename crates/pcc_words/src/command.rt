@@ -22,6 +22,14 @@ pub enum Command<'a> {
     Solve {
         file: &'a str,
     },
+    /// `gen N`: put the generated program of the number on the output.
+    Gen {
+        number: u32,
+    },
+    /// `least FILE`: remove the fewest pieces of the board of the file.
+    Least {
+        file: &'a str,
+    },
     /// There are so many sources, more than are read.
     ManyFiles(usize),
     /// No command; the text says what is wrong with the words, or has the help that they ask for.
