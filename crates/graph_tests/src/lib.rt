@@ -2,7 +2,8 @@
 //! `index_lists` (`list_rows`); of `flow_graph` (`graphs`), `flow_liveness` (`live_points`), `allocator` (`forms`)
 //! and `allocator` (`allocation`), whose graphs are built by the steps in `building`; and of `puzzle_board`,
 //! `puzzle_solver` and `puzzle_solver`: rows worked by hand (`rows`), every small board compared with a plain search
-//! (`search`), boards and placements as texts (`texts`), and a map of points (`maps`); and of `pcc_gen` (`generated`).
+//! (`search`), with hints (`hints`), boards and placements as texts (`texts`), and a map of points (`maps`); of
+//! `least_spill` (`fewest`); and of `pcc_gen` (`generated`).
 //!
 //! They stand in a crate of their own since a crate with tests is proved a second time; this one needs only what
 //! those crates promise.
@@ -17,11 +18,15 @@ mod expected;
 #[cfg(test)]
 mod faults;
 #[cfg(test)]
+mod fewest;
+#[cfg(test)]
 mod forms;
 #[cfg(test)]
 mod generated;
 #[cfg(test)]
 mod graphs;
+#[cfg(test)]
+mod hints;
 #[cfg(test)]
 mod host;
 #[cfg(test)]

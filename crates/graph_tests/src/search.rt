@@ -9,7 +9,7 @@ use std::process::Abort;
 
 /// The cells of an area are bits: 1 and 2 the upper and the lower row of the low column, 4 and 8 those of the high one.
 /// The sets of cells that a piece may take.
-fn choices(kind: Kind, width: Width) -> [u8; 2] {
+pub(crate) fn choices(kind: Kind, width: Width) -> [u8; 2] {
     let rows = match kind {
         Kind::X => 1,
         Kind::Z => 2,
@@ -22,7 +22,7 @@ fn choices(kind: Kind, width: Width) -> [u8; 2] {
 }
 
 /// Some places are left for the pieces from this one on.
-fn has_place(free: [u8; 2], pieces: &[Piece], from: usize) -> bool {
+pub(crate) fn has_place(free: [u8; 2], pieces: &[Piece], from: usize) -> bool {
     if from >= pieces.len() {
         return true;
     }
@@ -49,7 +49,7 @@ fn column(bits: u8) -> Column {
 }
 
 /// The area of four bits.
-fn area(bits: u8) -> Area {
+pub(crate) fn area(bits: u8) -> Area {
     Area {
         low: column(bits),
         high: column(bits / 4),
@@ -57,7 +57,7 @@ fn area(bits: u8) -> Area {
 }
 
 /// The cells that a piece takes at a spot.
-fn cells_at(piece: Piece, spot: Spot) -> u8 {
+pub(crate) fn cells_at(piece: Piece, spot: Spot) -> u8 {
     let sets = choices(piece.kind, piece.width);
     match spot.columns {
         Columns::Low | Columns::All => sets[0],
@@ -66,7 +66,7 @@ fn cells_at(piece: Piece, spot: Spot) -> u8 {
 }
 
 /// Each piece has a spot of its width on cells that are free and that no piece before it has taken.
-fn is_legal(free: [u8; 2], pieces: &[Piece], spots: &[Option<Spot>]) -> bool {
+pub(crate) fn is_legal(free: [u8; 2], pieces: &[Piece], spots: &[Option<Spot>]) -> bool {
     let mut left = free;
     if pieces.len() != spots.len() {
         return false;
@@ -127,7 +127,7 @@ fn agrees_on_pieces(rt: &impl Abort, alloc: Global, free: [u8; 2], areas: &[Area
 }
 
 /// A piece of one of the three kinds and two widths, in the order X1, X2, Y1, Y2, Z1, Z2.
-fn piece(class: u8) -> Piece {
+pub(crate) fn piece(class: u8) -> Piece {
     Piece {
         kind: match class / 2 {
             0 => Kind::X,

@@ -6,7 +6,7 @@ ghost use Rattle.graph_tests.specs.Narrow.{narrow_of};
 
 use pcc_base::{NoMemory, Steps, Width};
 use puzzle_board::{Area, Board, Column, Kind, Piece, Spot};
-use puzzle_solver::{Candidate, fit, solve, spill_order};
+use puzzle_solver::{Candidate, fit, solve, solve_near, spill_order};
 use std::alloc::Global;
 use std::marker::Brand;
 use std::process::Abort;
@@ -30,6 +30,19 @@ fn board_of<L: Ledger>(
     Ok(board)
 }
 
+/// The spots of the pieces on a board.
+fn spots_on<L: Ledger>(
+    alloc: Global,
+    board: &Board<L>,
+    steps: &mut Steps<L>,
+) -> Result<Vec<Option<Spot>>, NoMemory> {
+    let mut spots = Vec::new(alloc);
+    for piece in 0..board.pieces(steps) {
+        spots.push(board.spot(piece, steps))?;
+    }
+    Ok(spots)
+}
+
 /// The spots of the pieces on a solved board, or None where it isn't solvable.
 fn spots_with<L: Ledger>(
     alloc: Global,
@@ -48,11 +61,7 @@ fn spots_with<L: Ledger>(
     if !solve(&mut board, &mut steps) {
         return Ok(None);
     }
-    let mut spots = Vec::new(alloc);
-    for piece in 0..board.pieces(&mut steps) {
-        spots.push(board.spot(piece, &mut steps))?;
-    }
-    Ok(Some(spots))
+    Ok(Some(spots_on(alloc, &board, &mut steps)?))
 }
 
 /// The spots of at most 16 pieces on a solved board of at most 16 areas, or None where it isn't solvable.
@@ -64,6 +73,41 @@ pub(crate) fn spots(
 ) -> Option<Vec<Option<Spot>>> {
     assert!(rt; areas.len() <= 16 && pieces.len() <= 16);
     spots_with::<Brand>(alloc, areas, pieces, Blank::new(1)).expect(rt, "memory")
+}
+
+/// The same with hints.
+fn spots_near_with<L: Ledger>(
+    alloc: Global,
+    areas: &[Area],
+    pieces: &[Piece],
+    hints: &[Option<Spot>],
+    blank: Blank,
+) -> Result<Option<Vec<Option<Spot>>>, NoMemory>
+    requires areas { length areas.now ≤ 16 }
+    requires pieces { length pieces.now ≤ 16 }
+    requires name { blank.name ≡ L.name }
+    requires parts { blank.parts ≡ L.parts }
+    requires one { L.parts ≡ 1 }
+{
+    let mut steps = Steps::<L>::new(blank);
+    let mut board = board_of::<L>(alloc, areas, pieces)?;
+    if !solve_near(&mut board, hints, &mut steps) {
+        return Ok(None);
+    }
+    Ok(Some(spots_on(alloc, &board, &mut steps)?))
+}
+
+/// The spots of at most 16 pieces on a solved board of at most 16 areas, near to these hints, or None where it isn't
+/// solvable.
+pub(crate) fn spots_near(
+    rt: &impl Abort,
+    alloc: Global,
+    areas: &[Area],
+    pieces: &[Piece],
+    hints: &[Option<Spot>],
+) -> Option<Vec<Option<Spot>>> {
+    assert!(rt; areas.len() <= 16 && pieces.len() <= 16);
+    spots_near_with::<Brand>(alloc, areas, pieces, hints, Blank::new(1)).expect(rt, "memory")
 }
 
 /// A board of one empty area and so many pieces Y of width One, each of its own variable.

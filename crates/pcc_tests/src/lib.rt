@@ -13,11 +13,15 @@ mod evaluations;
 #[cfg(test)]
 mod expected;
 #[cfg(test)]
+mod generated;
+#[cfg(test)]
 mod maps;
 #[cfg(test)]
 mod programs;
 #[cfg(test)]
 mod refusals;
+#[cfg(test)]
+mod removals;
 #[cfg(test)]
 mod runs;
 #[cfg(test)]

@@ -32,20 +32,49 @@ pub struct Answer {
     pub err: MemSink,
 }
 
+/// A sink whose call with this number fails, and none where it is 0.
+fn sink_of(rt: &impl Abort, alloc: Global, failing_call: u64) -> MemSink {
+    MemSink::new(alloc, failing(rt, alloc, failing_call))
+}
+
+/// Runs a command over these files, this input and these sinks.
+fn run_with<F: FileStore>(
+    rt: &impl Abort,
+    alloc: Global,
+    line: &str,
+    files: &mut F,
+    mut input: MemSource,
+    mut out: MemSink,
+    mut err: MemSink,
+) -> Answer {
+    let words = words_of(alloc, line).expect(rt, "words");
+    let status = pcc(alloc, &words, files, &mut input, &mut out, &mut err);
+    Answer { status, out, err }
+}
+
 /// Runs a command over these files and this input. Of standard error the call with this number fails.
 pub fn run_over<F: FileStore>(
     rt: &impl Abort,
     alloc: Global,
     line: &str,
     files: &mut F,
-    mut input: MemSource,
+    input: MemSource,
     failing_put: u64,
 ) -> Answer {
-    let words = words_of(alloc, line).expect(rt, "words");
-    let mut out = MemSink::new(alloc, Vec::new(alloc));
-    let mut err = MemSink::new(alloc, failing(rt, alloc, failing_put));
-    let status = pcc(alloc, &words, files, &mut input, &mut out, &mut err);
-    Answer { status, out, err }
+    let err = sink_of(rt, alloc, failing_put);
+    run_with(rt, alloc, line, files, input, sink_of(rt, alloc, 0), err)
+}
+
+/// Runs a command over these files with an empty input, where the first call of the output fails.
+pub fn run_refused<F: FileStore>(
+    rt: &impl Abort,
+    alloc: Global,
+    line: &str,
+    files: &mut F,
+) -> Answer {
+    let input = input_of(rt, alloc, "", 0);
+    let err = sink_of(rt, alloc, 0);
+    run_with(rt, alloc, line, files, input, sink_of(rt, alloc, 1), err)
 }
 
 /// Runs a command over these files with an empty input. Of standard error the call with this number
