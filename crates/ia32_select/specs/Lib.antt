@@ -1,5 +1,6 @@
 pub mod Frames
 pub mod Laws
 pub mod Room
+pub mod Selections
 pub mod Sites
 pub mod Sizes

@@ -19,6 +19,7 @@ mod function;
 mod headers;
 mod ops;
 mod ops_by_number;
+mod selection;
 mod site;
 mod size_laws;
 
@@ -27,5 +28,6 @@ pub use frame::Frame;
 pub use frame_laws::{frames_support, offsets_are_below};
 pub use function::select_function;
 pub use headers::emit_headers;
+pub use selection::select;
 pub use site::{Site, all_at, any_at, array_at, array_of, at, loop_label};
 pub use size_laws::{blocks_are_few, selected_is_code};

@@ -9,12 +9,21 @@
 #![tactic(auto)]
 
 mod declared;
+mod home;
 mod laws;
+mod map_laws;
 mod points;
+mod printed;
 mod program;
 mod variables;
 mod visits_laws;
 
+pub use home::Home;
 pub use laws::{map_belongs, map_by_same_addresses, map_keeps_rules, map_lists_locals};
+pub use map_laws::{
+    homes_map_belongs, homes_map_by_same_addresses, homes_map_keeps_rules, homes_map_lists_locals,
+    homes_map_shows_visits,
+};
+pub use printed::print_map;
 pub use program::map_lines;
 pub use visits_laws::{arrays_are_found, frames_are_found, visits_are_shown};

@@ -127,6 +127,24 @@ impl PointMap {
         side.get(var)
     }
 
+    /// The variables that have a place before a point, in ascending order, each with its place.
+    pub fn entries_before(&self, point: u32) -> &[(u32, Place)]
+        requires { point < length self.now.before }
+        ensures { result.now ≡ entries_at self.now.before point }
+    {
+        let side = &self.before[point as usize];
+        side.as_slice()
+    }
+
+    /// The variables that have a place after a point, in ascending order, each with its place.
+    pub fn entries_after(&self, point: u32) -> &[(u32, Place)]
+        requires { point < length self.now.before }
+        ensures { result.now ≡ entries_at self.now.after point }
+    {
+        let side = &self.after[point as usize];
+        side.as_slice()
+    }
+
     /// Gives a variable this place before a point.
     pub fn set_before(&mut self, point: u32, var: u32, place: Place) -> Result<(), NoMemory>
         requires { point < length self.old.before }

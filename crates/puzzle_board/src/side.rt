@@ -63,6 +63,13 @@ impl Side {
         None
     }
 
+    // The entries, in order.
+    pub(crate) fn as_slice(&self) -> &[(u32, Place)]
+        ensures { result.now ≡ self.now }
+    {
+        self.entries.as_slice()
+    }
+
     // Gives a variable this place.
     pub(crate) fn set(&mut self, var: u32, place: Place) -> Result<(), NoMemory>
         ensures { MatchResult result (λ _. self.new ≡ with_place self.old var place) (λ _. self.new ≡ self.old) }

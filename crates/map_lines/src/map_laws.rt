@@ -1,0 +1,31 @@
+//! Laws of the map of a program: each function's contract is one, and the function does nothing.
+
+ghost use Rattle.map_lines.specs.MapLaws.{HomesMapBelongs, HomesMapBySameAddresses, HomesMapKeepsRules};
+ghost use Rattle.map_lines.specs.MapLaws.{HomesMapListsLocals, HomesMapShowsVisits};
+
+/// The map of the program over homes of its variables belongs to the program and to its code: a NOP stands at the address
+/// of each mark.
+pub fn homes_map_belongs()
+    ensures { HomesMapBelongs }
+{}
+
+/// Where the functions and their locals have names, it keeps the rules of a map.
+pub fn homes_map_keeps_rules()
+    ensures { HomesMapKeepsRules }
+{}
+
+/// What any map of a typed program lists are locals of the program.
+pub fn homes_map_lists_locals()
+    ensures { HomesMapListsLocals }
+{}
+
+/// The map is the same where the points have the same addresses.
+pub fn homes_map_by_same_addresses()
+    ensures { HomesMapBySameAddresses }
+{}
+
+/// At a mark a map of a typed program shows the statement and the values of the parts of locals that it lists, and
+/// nothing elsewhere.
+pub fn homes_map_shows_visits()
+    ensures { HomesMapShowsVisits }
+{}
