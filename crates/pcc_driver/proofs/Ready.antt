@@ -15,6 +15,7 @@ pub compilable : (p : Program) → IsReady p → IsCompilable p
 compilable p ready =
     record {
       typed = ready.typed;
+      declared = ready.declared;
       memory = ready.memory;
       names = All-weaker IsNamed IsNamedFunction named_function p.functions
           (All-from_recursion IsNamed p.functions ready.names);

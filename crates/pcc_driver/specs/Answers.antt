@@ -11,7 +11,7 @@ use Rattle.ia32_machine.specs.First.{First}
 use Rattle.ia32_machine.specs.Runs.{Reaches, WritesNext}
 use Rattle.ia32_machine.specs.declared.ends.MachineEnd.{MachineEnd}
 use Rattle.ia32_machine.specs.declared.ends.MachineEnd.TheVariants as machine
-use Rattle.map_text.specs.Lines.{map_text}
+use Rattle.map_text.specs.Words.{map_text}
 use Rattle.map_text.specs.Maps as maps
 use Rattle.c_tree.specs.Program.{Program}
 use Rattle.pcc_gen.specs.Generated.{generated}

@@ -5,7 +5,7 @@ use Rattle.pcc_driver.specs.Programs.{HaveTypedProgram}
 use Rattle.pcc_program.specs.Small.{AreSmallBeside}
 use Rattle.lower_laws.specs.SettledLaws.{NothingLiveFirst}
 use Rattle.pcc_program.specs.Products.{IsImageOf}
-use Rattle.map_text.specs.Lines.{map_text}
+use Rattle.map_text.specs.Words.{map_text}
 use Rattle.map_text.specs.Maps.{Map}
 use Rattle.pcc_words.specs.Asked.{map_name}
 use Rattle.pcc_driver.specs.Outside.{Files}

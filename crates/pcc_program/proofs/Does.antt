@@ -2,59 +2,55 @@
 use Rattle.std.proofs.Common.{◌≡◌, ◌<◌, ℕ, List, [], ◌∷◌, length, map, Some, option_map, refl, sym, ap, ◌∙◌, subst}
 use Rattle.std.proofs.Common.{arith}
 use Rattle.std.specs.Prelude.{slice_get, slice_index}
-use Rattle.std.proofs.lemmas.Option.{get_or_from_slice_get, slice_get-map, slice_get_within}
-use Rattle.std.proofs.lemmas.Slice.Zip.{AllZip-long}
+use Rattle.std.proofs.lemmas.Option.{get_or_from_slice_get, none-some, same_Some, slice_get_within}
 use Rattle.std.proofs.lemmas.List.{length-map}
 use Rattle.pcc_base.specs.Bytes.{AreBytes}
+use Rattle.pcc_base.proofs.Lists.{element-at}
 use Rattle.c_tree.specs.Program.{Program}
 use Rattle.elf_image.specs.Layout.{Fits, image_bytes}
 use Rattle.elf_image.specs.Segments.{parts_of}
 use Rattle.elf_link.specs.declared.linked.Linked.{Linked}
 use Rattle.elf_link.specs.Parts.{order_of}
+use Rattle.elf_link.proofs.DataSize.{length-data}
 use Rattle.flow_graph.specs.Graphs.{Flow, IsPlaced}
 use Rattle.flow_graph.specs.States.{GraphProgram}
 use Rattle.flow_graph.proofs.Lists.{All-at}
 use Rattle.ia32_asm.specs.declared.section.Section.{Section}
-use Rattle.ia32_select.specs.declared.frame.Frame.{Frame}
-use Rattle.ia32_select.specs.Frames.{frame_bytes, frame_placement}
-use Rattle.ia32_select.specs.Laws.{FramesHaveSlots, FramesSupport, OffsetsAreBelow}
+use Rattle.ia32_asm.specs.Sections.{Stands}
+use Rattle.ia32_insn.specs.declared.item.Item.TheVariants as item
 use Rattle.ia32_insn.specs.Items.{data_bytes}
-use Rattle.ia32_laws.specs.Supports.{AreSlots}
 use Rattle.ia32_laws.specs.Right.{ProgramsAreRight}
-use Rattle.ia32_rows.specs.Placements.{Code, in_slots, no_placement, objects_of, placement_of, point_address}
-use Rattle.ia32_select.specs.Sizes.{SelectedIsCode}
 use Rattle.ia32_laws.specs.StandingLaws.{IsSelected}
-use Rattle.pcc_program.specs.Begins.{parts_of_text}
+use Rattle.ia32_rows.specs.Placements.{Code, Placement, objects_of, placement_of, point_address}
 use Rattle.lower_laws.specs.VisitsLaws.{VisitsAreKnown}
-use Rattle.elf_link.proofs.DataSize.{length-data}
-use Rattle.map_lines.specs.Laws.{IsOverSlots, MapBelongs, MapBySameAddresses, MapKeepsRules, MapListsLocals, map_in}
-use Rattle.map_lines.specs.Shown.{address_in, homes_of}
-use Rattle.map_lines.specs.VisitsLaws.{MapShowsVisits}
-use Rattle.pcc_program.specs.CompiledLaws.{CompiledDoesAs, IsCompiled}
-use Rattle.pcc_program.specs.Products.{IsImageOf, image_of}
+use Rattle.map_lines.specs.declared.home.Home as memory
+use Rattle.map_lines.specs.MapLaws.{HomesMapBelongs, HomesMapBySameAddresses, HomesMapKeepsRules}
+use Rattle.map_lines.specs.MapLaws.{HomesMapListsLocals, HomesMapShowsVisits, IsOverHomes, map_in}
+use Rattle.map_lines.specs.MapOf.{Home, IsHome, map_of}
+use Rattle.map_lines.specs.Printing.{address_in, graph_of, home_of}
 use Rattle.map_text.specs.Maps.{Map}
 use Rattle.map_text.specs.Marks.{listed}
-use Rattle.pcc_program.specs.Code.{HasFrame, HaveFrames, IsFramedCode, framed_items}
-use Rattle.pcc_program.specs.CodeLaws.{FramedIsSelected, GraphsHaveFrames}
-use Rattle.map_lines.specs.ProgramMap.{Homes, program_map}
+use Rattle.pcc_program.specs.Begins.{parts_of_text}
+use Rattle.pcc_program.specs.Code.{HasFrame, HaveFrames, IsCodeOverMaps}
+use Rattle.pcc_program.specs.CodeLaws.{GraphsHaveFrames, MappedIsSelected}
+use Rattle.pcc_program.specs.CompiledLaws.{CompiledDoesAs, IsCompiled}
 use Rattle.pcc_program.specs.LinkedLaws.{AreLinked, linked_map}
-use Rattle.pcc_program.proofs.Mapped.{frame-at, has-slots, placement-is}
-use Rattle.pcc_program.proofs.Placed.{framed, linked_code, objects-small, point-entry, same-objects}
+use Rattle.pcc_program.specs.Passes.{IsAllocated}
+use Rattle.pcc_program.specs.Products.{IsImageOf, image_of}
+use Rattle.pcc_program.proofs.Linking.{as-many-items, made-at}
+use Rattle.pcc_program.proofs.Placed.{as-many-homes, graph-at, home-at, linked_code, objects-small, over-maps}
+use Rattle.pcc_program.proofs.Placed.{placement-at, point-entry, same-objects}
 
 -- the laws that this rests on
 pub record Laws : Type 0 where
   pub have_frames : GraphsHaveFrames
-  pub have_slots : FramesHaveSlots
-  pub support : FramesSupport
-  pub offsets : OffsetsAreBelow
-  pub selects : FramedIsSelected
-  pub is_code : SelectedIsCode
+  pub selects : MappedIsSelected
   pub right : ProgramsAreRight
-  pub belongs : MapBelongs
-  pub rules : MapKeepsRules
-  pub lists : MapListsLocals
-  pub same : MapBySameAddresses
-  pub shows : MapShowsVisits
+  pub belongs : HomesMapBelongs
+  pub rules : HomesMapKeepsRules
+  pub lists : HomesMapListsLocals
+  pub same : HomesMapBySameAddresses
+  pub shows : HomesMapShowsVisits
   pub known : VisitsAreKnown
   pub does : CompiledDoesAs
 
@@ -63,64 +59,82 @@ same-map : (program : Program) (one other : Map) (image : List ℕ) → one ≡ 
     → IsImageOf program other image
 same-map program one other image e h = subst (λ (m : Map). IsImageOf program m image) e h
 
--- the list of a function's entries, where there is one for each function
-pub entries-at : (tables : List (List ℕ)) (k n : ℕ) → length tables ≡ n → k < n
-    → (entries : List ℕ) × (slice_get tables k ≡ Some entries)
-entries-at tables k n e h = there tables k (omega (arith, e, h))
-  where
-    there : (xs : List (List ℕ)) (j : ℕ) → j < length xs → (x : List ℕ) × (slice_get xs j ≡ Some x)
-    there [] j h = absurd (omega (arith, h))
-    there (x ∷ xs) ℕ.zero h = (x, refl)
-    there (x ∷ xs) (ℕ.suc j) h = there xs j (omega (arith, h))
+-- the home that a home in memory is
+record MemoryAt (homes : List memory.Home) (k : ℕ) (home : Home) : Type 0 where
+  held : memory.Home
+  there : slice_get homes k ≡ Some held
+  is : home_of held ≡ home
 
-module _ (laws : Laws) (program : Program) (graphs : GraphProgram) (frames : List Frame) (sections : List Section)
-    (linked : Linked) (h : AreLinked program graphs frames sections linked) where
+memory-at : (homes : List memory.Home) (k : ℕ) (home : Home) → slice_get (map home_of homes) k ≡ Some home
+    → MemoryAt homes k home
+memory-at [] k home e = absurd (none-some home e)
+memory-at (x ∷ homes) ℕ.zero home e = record { held = x; there = refl; is = same_Some (home_of x) home e }
+memory-at (x ∷ homes) (ℕ.suc k) home e =
+    let at = memory-at homes k home e in record { held = at.held; there = at.there; is = at.is }
+
+module _ (laws : Laws) (program : Program) (graphs : GraphProgram) (homes : List memory.Home)
+    (sections : List Section) (linked : Linked) (h : AreLinked program graphs homes sections linked) where
   abbrev code : Code
-  code = linked_code graphs (order_of sections) linked h.linked_is
+  code = linked_code graphs homes sections h.sections_of linked h.linked_is
 
-  abbrev homes : List Homes
-  homes = map homes_of frames
+  abbrev own_homes : List Home
+  own_homes = map home_of homes
 
   abbrev the_map : Map
-  the_map = map_in program homes code
+  the_map = map_in program own_homes code
 
   pub have-frames : HaveFrames graphs
-  have-frames = laws.have_frames program graphs h.compilable.memory h.lowered.shapes h.lowered.small
-      h.lowered.well_formed
+  have-frames = laws.have_frames program graphs h.compilable.memory h.compilable.declared h.lowered
 
-  is-framed : IsFramedCode code
-  is-framed =
-      framed graphs (order_of sections) linked h.linked_is h.small
+  is-over : IsCodeOverMaps code
+  is-over =
+      over-maps graphs homes sections h.sections_of linked h.linked_is h.graphs_are h.allocated h.small
       (objects-small program graphs h.lowered.objects h.compilable.objects)
 
   is-selected : IsSelected code
-  is-selected = laws.selects code h.lowered.well_formed have-frames is-framed
+  is-selected = laws.selects code h.lowered.well_formed have-frames is-over
 
-  pub frame-of : (k : ℕ) (flow : Flow) → slice_get graphs.functions k ≡ Some flow
-      → HasFrame (length graphs.functions) (length graphs.objects) flow
-  frame-of k flow e =
-      All-at (HasFrame (length graphs.functions) (length graphs.objects)) graphs.functions k flow have-frames.each e
+  -- the graph of a home is within the limits
+  pub frame-of : (k : ℕ) (home : memory.Home) → slice_get homes k ≡ Some home
+      → HasFrame (length graphs.functions) (length graphs.objects) (graph_of home)
+  frame-of k home e =
+      All-at (HasFrame (length graphs.functions) (length graphs.objects)) graphs.functions k (graph_of home)
+      have-frames.each (graph-at graphs.functions homes k home h.graphs_are e)
 
-  -- the placement of a function is that of its frame
-  placed : (k : ℕ) (flow : Flow) (home : Homes) → slice_get graphs.functions k ≡ Some flow
-      → slice_get homes k ≡ Some home → placement_of code k ≡ in_slots (frame_bytes flow) home.arrays home.slots
-  placed k flow home e f =
-      let at = frame-at graphs.functions frames k flow home h.frames_of e f in
-      let there : slice_get (map frame_placement graphs.functions) k ≡ Some (frame_placement flow) =
-      slice_get-map frame_placement graphs.functions k ∙ ap (option_map frame_placement) e in
-      get_or_from_slice_get (map frame_placement graphs.functions) k (frame_placement flow) no_placement there
-      ∙ placement-is flow at.frame laws.offsets at.is
-      ∙ ap (λ (x : Homes). in_slots (frame_bytes flow) x.arrays x.slots) at.homes
+  is-home : (k : ℕ) (home : memory.Home) → slice_get homes k ≡ Some home
+      → IsHome (graph_of home) (home_of home) (placement_of code k)
+  is-home k home e =
+      let allocated = All-at IsAllocated homes k home h.allocated e in
+      record {
+        legal = record {
+          lives = home.form.lives;
+          live = allocated.form.live;
+          dies = allocated.form.dies;
+          nothing_first = (frame-of k home e).nothing_first;
+          points = allocated.allocated.legal;
+          frame = allocated.allocated.frame;
+        };
+        same_lives = refl;
+        shortest = allocated.allocated.shortest;
+        between = (made-at 0 homes sections h.sections_of k home e).selection.between;
+        placement_is = placement-at graphs homes sections h.sections_of linked h.linked_is h.graphs_are k home e;
+      }
 
-  slots : (k : ℕ) (flow : Flow) (home : Homes) → slice_get graphs.functions k ≡ Some flow
-      → slice_get homes k ≡ Some home → AreSlots flow (frame_bytes flow) home.arrays home.slots
-  slots k flow home e f =
-      let at = frame-at graphs.functions frames k flow home h.frames_of e f in
-      subst (λ (x : Homes). AreSlots flow (frame_bytes flow) x.arrays x.slots) at.homes
-      (has-slots flow at.frame laws.offsets laws.have_slots at.is)
+  homes-are : (k : ℕ) (flow : Flow) (home : Home) → slice_get graphs.functions k ≡ Some flow
+      → slice_get own_homes k ≡ Some home → IsHome flow home (placement_of code k)
+  homes-are k flow home e f =
+      let at = memory-at homes k home f in
+      let same = same_Some (graph_of at.held) flow
+      (sym (graph-at graphs.functions homes k at.held h.graphs_are at.there) ∙ e) in
+      subst (λ (g : Flow). IsHome g home (placement_of code k)) same
+      (subst (λ (x : Home). IsHome (graph_of at.held) x (placement_of code k)) at.is (is-home k at.held at.there))
 
-  over-slots : IsOverSlots program homes code
-  over-slots =
+  as-many : length own_homes ≡ length program.functions
+  as-many = length-map homes home_of
+      ∙ as-many-homes graphs homes sections h.sections_of linked h.linked_is h.graphs_are ∙ h.lowered.shapes.as_many
+
+  over-homes : IsOverHomes program own_homes code
+  over-homes =
       record {
         selected = is-selected;
         shapes = h.lowered.shapes;
@@ -129,34 +143,43 @@ module _ (laws : Laws) (program : Program) (graphs : GraphProgram) (frames : Lis
         once = h.lowered.once;
         few_functions = omega (arith, have-frames.few, h.lowered.shapes.as_many);
         few_objects = omega (arith, h.compilable.memory.few_objects);
-        as_many = length-map frames homes_of ∙ AllZip-long _ graphs.functions frames h.frames_of
-            ∙ h.lowered.shapes.as_many;
-        placed = placed;
-        slots = slots;
+        as_many = as-many;
+        each = homes-are;
       }
+
+  -- a point of a block stands among the function's items
+  pub point-stands : (k p : ℕ) (home : memory.Home) (e : slice_get homes k ≡ Some home) → IsPlaced (graph_of home) p
+      → Stands (item.Point p) (made-at 0 homes sections h.sections_of k home e).own
+  point-stands k p home e is =
+      let made = made-at 0 homes sections h.sections_of k home e in
+      ((made.selection.code (length graphs.functions) (length graphs.objects) (frame-of k home e).graph).points p).1 is
+
+  pub as-many-tables : length (map (λ v. v.items) linked.points.items) ≡ length homes
+  as-many-tables = length-map linked.points.items (λ v. v.items) ∙ h.linked_is.points_are
+      ∙ as-many-items 0 homes sections h.sections_of
 
   -- the addresses of points are those of the code
   addresses : (k p : ℕ) (flow : Flow) → slice_get graphs.functions k ≡ Some flow → IsPlaced flow p
       → address_in (map (λ v. v.items) linked.points.items) k p ≡ point_address code k p
   addresses k p flow e is =
-      let below = slice_get_within graphs.functions k flow e in
-      let has = frame-of k flow e in
-      let stands = ((laws.is_code (length graphs.functions) (length graphs.objects) flow (frame_placement flow)
-      has.graph (laws.support flow has.graph.keeps.0 has.graph.keeps.1) has.small).points p).1 is in
+      let at = home-at graphs.functions homes k flow h.graphs_are e in
+      let stands = point-stands k p at.home at.there (subst (λ (g : Flow). IsPlaced g p) (sym at.is) is) in
       let tables : List (List ℕ) = map (λ v. v.items) linked.points.items in
-      let many : length tables ≡ length graphs.functions = length-map linked.points.items (λ v. v.items)
-      ∙ h.linked_is.points_are ∙ length-map graphs.functions framed_items in
-      let (entries, there) = entries-at tables k (length graphs.functions) many below in
-      let entry = point-entry graphs (order_of sections) linked h.linked_is k flow entries e below there p stands in
+      let below = slice_get_within homes k at.home at.there in
+      let (entries, there) = element-at tables k (omega (arith, below, as-many-tables)) in
+      let entry = point-entry graphs homes sections h.sections_of linked h.linked_is h.graphs_are k at.home at.there
+      entries there p stands in
       ap (λ (xs : List ℕ). slice_index xs p) (get_or_from_slice_get tables k entries [] there)
       ∙ get_or_from_slice_get entries p (point_address code k p) 0 entry
 
-  same-maps : the_map ≡ linked_map program graphs frames linked
+  same-maps : the_map ≡ linked_map program homes linked
   same-maps =
-      sym (laws.same program graphs.functions homes code.symbols.objects
+      sym (laws.same program graphs.functions own_homes code.symbols.objects
       (address_in (map (λ v. v.items) linked.points.items)) (point_address code) addresses)
-      ∙ ap (λ (os : List ℕ). program_map program graphs.functions homes os
+      ∙ ap (λ (os : List ℕ). map_of program graphs.functions own_homes os
       (address_in (map (λ v. v.items) linked.points.items))) (sym h.linked_is.objects_are)
+      ∙ ap (λ (fs : List Flow). map_of program fs own_homes linked.objects.items
+      (address_in (map (λ v. v.items) linked.points.items))) (sym h.graphs_are)
 
   data-is : data_bytes (objects_of code.program) ≡ linked.image.data_bytes.items
   data-is = ap data_bytes (same-objects graphs.objects) ∙ sym h.linked_is.data_is
@@ -171,7 +194,7 @@ module _ (laws : Laws) (program : Program) (graphs : GraphProgram) (frames : Lis
           arith,
           h.small,
           length-data (objects_of code.program),
-          is-framed.held,
+          is-over.held,
         );
       }
 
@@ -185,14 +208,14 @@ module _ (laws : Laws) (program : Program) (graphs : GraphProgram) (frames : Lis
 
   compiled : IsCompiled program code the_map
   compiled =
-      let is-map = laws.belongs program homes code over-slots in
+      let is-map = laws.belongs program own_homes code over-homes in
       let lists = laws.lists program code the_map h.compilable.typed h.lowered.shapes is-map in
       record {
         lowered = h.lowered;
-        laid = is-framed.laid;
+        laid = is-over.laid;
         right = laws.right code is-selected;
         room = room;
-        rules = laws.rules program homes code over-slots h.compilable.names;
+        rules = laws.rules program own_homes code over-homes h.compilable.names;
         is_map = is-map;
         lists = lists;
         shows = laws.shows program code the_map (record {
@@ -205,7 +228,7 @@ module _ (laws : Laws) (program : Program) (graphs : GraphProgram) (frames : Lis
         known = laws.known program (listed the_map) h.compilable.typed lists;
       }
 
-  pub linked-does : IsImageOf program (linked_map program graphs frames linked) (image_bytes (parts_of linked.image))
+  pub linked-does : IsImageOf program (linked_map program homes linked) (image_bytes (parts_of linked.image))
   linked-does =
-      same-map program the_map (linked_map program graphs frames linked) (image_bytes (parts_of linked.image)) same-maps
+      same-map program the_map (linked_map program homes linked) (image_bytes (parts_of linked.image)) same-maps
       (subst (λ (image : List ℕ). IsImageOf program the_map image) image-is (laws.does program code the_map compiled))

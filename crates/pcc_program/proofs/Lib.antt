@@ -17,10 +17,9 @@ pub mod DeclaredFirstStatements
 mod Does
 mod Linking
 mod Loops
-mod Mapped
-mod Numbered
 mod Passed
 mod Placed
-mod Shows
-pub mod Framed
+pub mod Selected
 mod Frames
+mod Joined
+mod Printed

@@ -4,8 +4,9 @@ use Rattle.std.proofs.Common.{option_map, refl, sym, ap, ◌∙◌, subst, arith
 use Rattle.std.specs.Prelude.{slice_get, slice_index_or, sum_by}
 use Rattle.std.specs.List.{cons_option, filter_map, range_with_len}
 use Rattle.std.proofs.lemmas.List.Sums.{sum_by-cons}
-use Rattle.std.proofs.lemmas.Option.{none-some, same_Some, slice_get-map}
-use Rattle.flow_graph.specs.Graphs.{Flow}
+use Rattle.std.proofs.lemmas.Option.{none-some, same_Some, slice_get-map, slice_get_within}
+use Rattle.pcc_base.proofs.Lists.{element-at}
+use Rattle.flow_graph.specs.WellFormed.{IsGraph}
 use Rattle.ia32_insn.specs.declared.item.Item.{Item}
 use Rattle.ia32_insn.specs.Items.{IsOrder, Object}
 use Rattle.ia32_asm.specs.declared.section.Relocation.{Relocation}
@@ -16,9 +17,13 @@ use Rattle.ia32_asm.specs.Sections.{IsSection, target_of}
 use Rattle.elf_link.specs.Parts.{CanHold, IsThere, function_of, order_of, sections_size}
 use Rattle.elf_link.specs.Linking.{AreSections, CanLink, FitsIn}
 use Rattle.elf_link.proofs.Placing.{follow_inside}
+use Rattle.ia32_placements.specs.Placed.{placement_in}
+use Rattle.ia32_rows.specs.Placements.{Placement}
+use Rattle.ia32_select.specs.Selections.{IsSelection}
 use Rattle.ia32_select.specs.Sizes.{NamesThere, most_bytes}
-use Rattle.pcc_program.specs.Code.{framed_items}
-use Rattle.pcc_program.specs.Passes.{AreSectionsFrom, IsSectionOf}
+use Rattle.map_lines.specs.declared.home.Home.{Home}
+use Rattle.map_lines.specs.Printing.{graph_of}
+use Rattle.pcc_program.specs.Passes.{AreSectionsFrom, items_of, placements_of}
 
 -- ---- what a section names
 
@@ -84,98 +89,158 @@ range-is-order n =
 
 -- ---- the sections
 
-order-is : (k : ℕ) (flows : List Flow) (sections : List Section) → AreSectionsFrom k flows sections
-    → order_of sections ≡ range_with_len k (length flows)
+order-is : (k : ℕ) (homes : List Home) (sections : List Section) → AreSectionsFrom k homes sections
+    → order_of sections ≡ range_with_len k (length homes)
 order-is k [] [] h = refl
 order-is k [] (s ∷ sections) h = absurd h
-order-is k (flow ∷ flows) [] h = absurd h
-order-is k (flow ∷ flows) (s ∷ sections) h =
-    ap (λ (n : ℕ). n ∷ order_of sections) (number-of k (framed_items flow) s h.0.stands)
-    ∙ ap (λ (ns : List ℕ). k ∷ ns) (order-is (k + 1) flows sections h.1)
+order-is k (home ∷ homes) [] h = absurd h
+order-is k (home ∷ homes) (s ∷ sections) h =
+    ap (λ (n : ℕ). n ∷ order_of sections) (number-of k h.0.items s h.0.stands)
+    ∙ ap (λ (ns : List ℕ). k ∷ ns) (order-is (k + 1) homes sections h.1)
 
-pub order-of : (flows : List Flow) (sections : List Section) → AreSectionsFrom 0 flows sections
-    → order_of sections ≡ range_with_len 0 (length flows)
-order-of flows sections h = order-is 0 flows sections h
+pub order-of : (homes : List Home) (sections : List Section) → AreSectionsFrom 0 homes sections
+    → order_of sections ≡ range_with_len 0 (length homes)
+order-of homes sections h = order-is 0 homes sections h
 
-as-many : (k : ℕ) (flows : List Flow) (sections : List Section) → AreSectionsFrom k flows sections
-    → length sections ≡ length flows
+as-many : (k : ℕ) (homes : List Home) (sections : List Section) → AreSectionsFrom k homes sections
+    → length sections ≡ length homes
 as-many k [] [] h = refl
 as-many k [] (s ∷ sections) h = absurd h
-as-many k (flow ∷ flows) [] h = absurd h
-as-many k (flow ∷ flows) (s ∷ sections) h = ap suc (as-many (k + 1) flows sections h.1)
+as-many k (home ∷ homes) [] h = absurd h
+as-many k (home ∷ homes) (s ∷ sections) h = ap suc (as-many (k + 1) homes sections h.1)
 
-pub sections-small : (k : ℕ) (flows : List Flow) (sections : List Section) → AreSectionsFrom k flows sections
-    → sections_size sections ≤ sum_by most_bytes flows
+pub as-many-items : (k : ℕ) (homes : List Home) (sections : List Section) (h : AreSectionsFrom k homes sections)
+    → length (items_of k homes sections h) ≡ length homes
+as-many-items k [] [] h = refl
+as-many-items k [] (s ∷ sections) h = absurd h
+as-many-items k (home ∷ homes) [] h = absurd h
+as-many-items k (home ∷ homes) (s ∷ sections) h = ap suc (as-many-items (k + 1) homes sections h.1)
+
+pub as-many-placements : (k : ℕ) (homes : List Home) (sections : List Section)
+    (h : AreSectionsFrom k homes sections) → length (placements_of k homes sections h) ≡ length homes
+as-many-placements k [] [] h = refl
+as-many-placements k [] (s ∷ sections) h = absurd h
+as-many-placements k (home ∷ homes) [] h = absurd h
+as-many-placements k (home ∷ homes) (s ∷ sections) h = ap suc (as-many-placements (k + 1) homes sections h.1)
+
+pub sections-small : (k : ℕ) (homes : List Home) (sections : List Section) → AreSectionsFrom k homes sections
+    → sections_size sections ≤ sum_by most_bytes (map graph_of homes)
 sections-small k [] [] h = omega arith
 sections-small k [] (s ∷ sections) h = absurd h
-sections-small k (flow ∷ flows) [] h = absurd h
-sections-small k (flow ∷ flows) (s ∷ sections) h =
-    omega (arith, h.0.size, sections-small (k + 1) flows sections h.1, sum_by-cons most_bytes flow flows)
+sections-small k (home ∷ homes) [] h = absurd h
+sections-small k (home ∷ homes) (s ∷ sections) h =
+    omega (
+      arith,
+      h.0.size,
+      sections-small (k + 1) homes sections h.1,
+      sum_by-cons most_bytes (graph_of home) (map graph_of homes),
+    )
 
--- a section with the graph that it is of
-pub record SectionAt (k i : ℕ) (flows : List Flow) (s : Section) : Type 0 where
-  pub flow : Flow
-  pub there : slice_get flows i ≡ Some flow
-  pub is : IsSectionOf flow (k + i) s
+-- what was made of the function with this home: its section, its items, and the placement that they are over
+pub record MadeAt (k i : ℕ) (home : Home) (sections : List Section) (items : List (List Item))
+    (placements : List Placement) : Type 0 where
+  pub section : Section
+  pub section_there : slice_get sections i ≡ Some section
+  pub own : List Item
+  pub selection : IsSelection (graph_of home) home.places own
+  pub stands : IsSection (k + i) own section
+  pub items_there : slice_get items i ≡ Some own
+  pub placement_there : slice_get placements i
+      ≡ Some (placement_in (graph_of home) home.places selection.between)
 
-section-at : (k : ℕ) (flows : List Flow) (sections : List Section) (i : ℕ) (s : Section)
-    → AreSectionsFrom k flows sections → slice_get sections i ≡ Some s → SectionAt k i flows s
-section-at k [] [] i s h e = absurd (none-some s e)
-section-at k [] (x ∷ sections) i s h e = absurd h
-section-at k (flow ∷ flows) [] i s h e = absurd h
-section-at k (flow ∷ flows) (x ∷ sections) zero s h e =
+pub made-at : (k : ℕ) (homes : List Home) (sections : List Section) (h : AreSectionsFrom k homes sections) (i : ℕ)
+    (home : Home) → slice_get homes i ≡ Some home
+    → MadeAt k i home sections (items_of k homes sections h) (placements_of k homes sections h)
+made-at k [] [] h i home e = absurd (none-some home e)
+made-at k [] (s ∷ sections) h i home e = absurd h
+made-at k (x ∷ homes) [] h i home e = absurd h
+made-at k (x ∷ homes) (s ∷ sections) h zero home e =
     let plain : k ≡ k + 0 = omega arith in
-    record {
-      flow = flow;
-      there = refl;
-      is = subst (λ (n : ℕ). IsSectionOf flow n s) plain
-          (subst (λ (y : Section). IsSectionOf flow k y) (same_Some x s e) h.0);
-    }
-section-at k (flow ∷ flows) (x ∷ sections) (suc i) s h e =
-    let further = section-at (k + 1) flows sections i s h.1 e in
+    let items = items_of k (x ∷ homes) (s ∷ sections) h in
+    let placements = placements_of k (x ∷ homes) (s ∷ sections) h in
+    subst (λ (y : Home). MadeAt k 0 y (s ∷ sections) items placements) (same_Some x home e)
+    (record {
+      section = s;
+      section_there = refl;
+      own = h.0.items;
+      selection = h.0.selection;
+      stands = subst (λ (n : ℕ). IsSection n h.0.items s) plain h.0.stands;
+      items_there = refl;
+      placement_there = refl;
+    })
+made-at k (x ∷ homes) (s ∷ sections) h (suc i) home e =
+    let further = made-at (k + 1) homes sections h.1 i home e in
     let sum : k + 1 + i ≡ k + suc i = omega arith in
     record {
-      flow = further.flow;
-      there = further.there;
-      is = subst (λ (n : ℕ). IsSectionOf further.flow n s) sum further.is;
+      section = further.section;
+      section_there = further.section_there;
+      own = further.own;
+      selection = further.selection;
+      stands = subst (λ (n : ℕ). IsSection n further.own further.section) sum further.stands;
+      items_there = further.items_there;
+      placement_there = further.placement_there;
     }
 
-pub are-sections : (flows : List Flow) (sections : List Section) → AreSectionsFrom 0 flows sections
-    → AreSections (map framed_items flows) sections
-are-sections flows sections h =
+-- the same by the number of a section
+record SectionAt (i : ℕ) (homes : List Home) (items : List (List Item)) (s : Section) : Type 0 where
+  home : Home
+  there : slice_get homes i ≡ Some home
+  own : List Item
+  selection : IsSelection (graph_of home) home.places own
+  stands : IsSection i own s
+  items_there : slice_get items i ≡ Some own
+
+section-at : (homes : List Home) (sections : List Section) (h : AreSectionsFrom 0 homes sections) (i : ℕ)
+    (s : Section) → slice_get sections i ≡ Some s → SectionAt i homes (items_of 0 homes sections h) s
+section-at homes sections h i s e =
+    let below = slice_get_within sections i s e in
+    let many = as-many 0 homes sections h in
+    let (home, there) = element-at homes i (omega (arith, below, many)) in
+    let made = made-at 0 homes sections h i home there in
+    let same : made.section ≡ s = same_Some made.section s (sym made.section_there ∙ e) in
+    let plain : 0 + i ≡ i = omega arith in
     record {
-      many = length-items flows ∙ sym (as-many 0 flows sections h);
+      home = home;
+      there = there;
+      own = made.own;
+      selection = made.selection;
+      stands = subst (λ (n : ℕ). IsSection n made.own s) plain
+          (subst (λ (x : Section). IsSection (0 + i) made.own x) same made.stands);
+      items_there = made.items_there;
+    }
+
+pub are-sections : (homes : List Home) (sections : List Section) (h : AreSectionsFrom 0 homes sections)
+    → AreSections (items_of 0 homes sections h) sections
+are-sections homes sections h =
+    record {
+      many = as-many-items 0 homes sections h ∙ sym (as-many 0 homes sections h);
       each = λ i s e.
-          let at = section-at 0 flows sections i s h e in
-          let number = number-of (0 + i) (framed_items at.flow) s at.is.stands in
-          let plain : 0 + i ≡ i = omega arith in (
-            framed_items at.flow,
-            ap (slice_get (map framed_items flows)) (number ∙ plain) ∙ slice_get-map framed_items flows i
-                ∙ ap (option_map framed_items) at.there,
-            subst (λ (n : ℕ). IsSection n (framed_items at.flow) s) (sym number) at.is.stands,
+          let at = section-at homes sections h i s e in
+          let number = number-of i at.own s at.stands in (
+            at.own,
+            ap (slice_get (items_of 0 homes sections h)) number ∙ at.items_there,
+            subst (λ (n : ℕ). IsSection n at.own s) (sym number) at.stands,
           );
     }
-  where
-    length-items : (fs : List Flow) → length (map framed_items fs) ≡ length fs
-    length-items [] = refl
-    length-items (f ∷ fs) = ap suc (length-items fs)
 
-pub can-link : (flows : List Flow) (sections : List Section) (objects : List Object) (main : ℕ)
-    → AreSectionsFrom 0 flows sections
-    → ((i : ℕ) (flow : Flow) → slice_get flows i ≡ Some flow
-    → NamesThere (length flows) (length objects) (framed_items flow))
-    → main < length flows → sum_by most_bytes flows < 2 ^ 30 → CanHold objects → CanLink sections objects main
-can-link flows sections objects main h names inside small held =
-    let many = as-many 0 flows sections h in
+pub can-link : (homes : List Home) (sections : List Section) (objects : List Object) (main : ℕ)
+    → AreSectionsFrom 0 homes sections
+    → ((i : ℕ) (home : Home) → slice_get homes i ≡ Some home
+    → IsGraph (length homes) (length objects) (graph_of home))
+    → main < length homes → sum_by most_bytes (map graph_of homes) < 2 ^ 30 → CanHold objects
+    → CanLink sections objects main
+can-link homes sections objects main h graphs inside small held =
+    let many = as-many 0 homes sections h in
     record {
       main_there = omega (arith, inside, many);
       order = subst (λ (n : ℕ). IsOrder n (order_of sections)) (sym many)
-          (subst (IsOrder (length flows)) (sym (order-of flows sections h)) (range-is-order (length flows)));
+          (subst (IsOrder (length homes)) (sym (order-of homes sections h)) (range-is-order (length homes)));
       each = λ i s e.
-          let at = section-at 0 flows sections i s h e in
+          let at = section-at homes sections h i s e in
+          let graph = graphs i at.home at.there in
           subst (λ (n : ℕ). FitsIn n (length objects) s) (sym many)
-          (fits-in (length flows) (length objects) (0 + i) (framed_items at.flow) s at.is.stands
-          (names i at.flow at.there));
-      code = omega (arith, small, sections-small 0 flows sections h);
+          (fits-in (length homes) (length objects) i at.own s at.stands
+          (at.selection.code (length homes) (length objects) graph).names);
+      code = omega (arith, small, sections-small 0 homes sections h);
       held = held;
     }

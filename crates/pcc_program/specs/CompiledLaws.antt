@@ -16,9 +16,10 @@ use Rattle.ia32_rows.specs.Follows.{IsRightCode, ShowsVisits}
 use Rattle.ia32_rows.specs.Paths.{Path}
 use Rattle.ia32_rows.specs.Placements.{Code, IsCode, objects_of}
 use Rattle.ia32_rows.specs.Shows.{Shows}
-use Rattle.map_text.specs.Maps.{Map, IsMap}
+use Rattle.map_text.specs.Maps.{Map}
 use Rattle.map_text.specs.Marks.{listed, visits_of}
-use Rattle.map_lines.specs.Belongs.{IsMapOf}
+use Rattle.map_text.specs.Rules.{IsMap}
+use Rattle.map_lines.specs.MapOf.{IsMapOf}
 use Rattle.pcc_program.specs.Products.{BelongsTo, IsImageOf, image_of}
 
 -- What the passes make of a program: the graphs that it is lowered to; their code, which does what they do, in a

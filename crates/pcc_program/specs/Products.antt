@@ -13,10 +13,11 @@ use Rattle.ia32_insn.specs.Runs.{Runs}
 use Rattle.ia32_machine.specs.First.{First}
 use Rattle.ia32_rows.specs.Follows.{IsRightCode}
 use Rattle.ia32_rows.specs.Placements.{Code, IsCode, objects_of}
-use Rattle.map_text.specs.Lines.{map_text}
-use Rattle.map_text.specs.Maps.{Map, IsMap}
+use Rattle.map_text.specs.Maps.{Map}
 use Rattle.map_text.specs.Marks.{visits_of, listed}
-use Rattle.map_lines.specs.Belongs.{IsMapOf}
+use Rattle.map_text.specs.Rules.{IsMap}
+use Rattle.map_text.specs.Words.{map_text}
+use Rattle.map_lines.specs.MapOf.{IsMapOf}
 
 -- m steps of the image with these bytes have this outcome, with the visits that the map shows
 abbrev pub ImageOutcome : List ℕ → Map → List ℕ → ℕ → Outcome → Type 0

@@ -4,9 +4,9 @@
 //! turns the image does what the program does, as its map shows it (`specs/Products.antt`). The only refusal is want of
 //! memory.
 //!
-//! `program` has all passes in one function, and `functions` the frames and sections. The other modules are laws:
+//! `program` has all passes in one function, and `functions` the homes and sections. The other modules are laws:
 //! `ready_laws`, `limits`, `memory` and `declared_first` that an accepted program is all that the passes ask of one
-//! (`specs/Ready.antt`), `code` those of code over frames, `linked_laws` and `start` what is linked and where it
+//! (`specs/Ready.antt`), `code` those of code over maps, `linked_laws` and `start` what is linked and where it
 //! begins, and `compiled_laws` puts together what each pass promises.
 #![tactic(auto)]
 
@@ -23,7 +23,7 @@ mod ready_laws;
 mod start;
 mod tokens;
 
-pub use code::{framed_is_selected, graphs_have_frames};
+pub use code::{graphs_have_frames, mapped_is_selected};
 pub use compiled_laws::graphs_are_shown;
 pub use declared_first::{grammar_is_needed, locals_are_declared_first};
 pub use limits::{limits_bound, worked_example};

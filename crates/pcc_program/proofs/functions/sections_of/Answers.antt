@@ -1,37 +1,47 @@
 -- One more function has its section.
-use Rattle.std.proofs.Common.{◌<◌, ◌+◌, List, length, take, refl, sym, subst, arith}
-use Rattle.std.proofs.lemmas.Option.{slice_get_read}
-use Rattle.std.proofs.lemmas.Slice.Zip.{AllZip-long}
+use Rattle.std.proofs.Common.{◌≡◌, ◌<◌, ◌+◌, ◌^◌, ℕ, List, Some, length, map, take, option_map, refl, sym, ap, ◌∙◌, subst}
+use Rattle.std.proofs.Common.{arith}
+use Rattle.std.specs.Prelude.{slice_get, sum_by}
+use Rattle.std.proofs.lemmas.Option.{slice_get_read, slice_get-map}
+use Rattle.flow_graph.proofs.Lists.{All-at}
 use Rattle.ia32_asm.specs.declared.section.Section.{Section}
-use Rattle.pcc_program.specs.Passes.{AreSectionsFrom}
+use Rattle.map_lines.specs.declared.home.Home.{Home}
+use Rattle.map_lines.specs.Printing.{graph_of}
+use Rattle.pcc_program.specs.Code.{HasFrame}
+use Rattle.pcc_program.specs.Passes.{AreSectionsFrom, IsAllocated}
 use Rattle.pcc_program.proofs.Loops.{sections-more}
-use Rattle.pcc_program.proofs.Mapped.{frame-there}
+use Rattle.pcc_program.proofs.Placed.{graph-at}
 use Rattle.pcc_program.proofs.functions.sections_of.Goals as goal
 
-pub bounds-frames-function : goal.bounds-frames-function
-bounds-frames-function c =
-    omega (arith, c.loop-function-test.true, AllZip-long _ c.args.graphs.now c.args.frames.now c.requires.frames)
-
-pub section_of-requires-clause-frame : goal.section_of-requires-clause-frame
-section_of-requires-clause-frame c =
-    let graphs = c.args.graphs.now in
-    let frames = c.args.frames.now in
+pub section_of-requires-clause-graph : goal.section_of-requires-clause-graph
+section_of-requires-clause-graph c =
+    let homes = c.args.homes.now in
     let k = c.loop-function.function in
-    let many = AllZip-long _ graphs frames c.requires.frames in
-    let within : k < length frames = omega (arith, c.loop-function-test.true, many) in
-    frame-there graphs frames k c.index-graphs-function.result c.index-frames-function.result c.requires.frames
-    (slice_get_read graphs (length graphs) k c.index-graphs-function.result refl c.loop-function-test.true
-    c.index-graphs-function.is)
-    (slice_get_read frames (length frames) k c.index-frames-function.result refl within c.index-frames-function.is)
+    let home = c.index-homes-function.result in
+    let (functions, objects, all) = c.requires.graphs in
+    let there = slice_get_read homes (length homes) k home refl c.loop-function-test.true c.index-homes-function.is in (
+      functions,
+      objects,
+      All-at (HasFrame functions objects) (map graph_of homes) k (graph_of home) all
+          (graph-at (map graph_of homes) homes k home refl there),
+    )
+
+pub section_of-requires-clause-allocated : goal.section_of-requires-clause-allocated
+section_of-requires-clause-allocated c =
+    let homes = c.args.homes.now in
+    let k = c.loop-function.function in
+    let home = c.index-homes-function.result in
+    All-at IsAllocated homes k home c.requires.allocated
+    (slice_get_read homes (length homes) k home refl c.loop-function-test.true c.index-homes-function.is)
 
 pub loop-function-preserved : goal.loop-function-preserved
 loop-function-preserved c =
-    let graphs = c.args.graphs.now in
+    let homes = c.args.homes.now in
     let k = c.loop-function.function in
-    subst (λ (ss : List Section). AreSectionsFrom 0 (take (k + 1) graphs) ss)
+    subst (λ (ss : List Section). AreSectionsFrom 0 (take (k + 1) homes) ss)
     (sym {A = List Section} c.in_ok-push.ensures.items)
-    (sections-more graphs c.loop-function.sections.items k c.index-graphs-function.result c.in_ok-section_of.field-0
+    (sections-more homes c.loop-function.sections.items k c.index-homes-function.result c.in_ok-section_of.field-0
     c.loop-function.invariant
-    (slice_get_read graphs (length graphs) k c.index-graphs-function.result refl c.loop-function-test.true
-    c.index-graphs-function.is)
+    (slice_get_read homes (length homes) k c.index-homes-function.result refl c.loop-function-test.true
+    c.index-homes-function.is)
     c.in_ok-section_of.ensures)
