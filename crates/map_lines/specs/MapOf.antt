@@ -8,7 +8,7 @@ use Rattle.c_tree.specs.Program.{Function, Program}
 use Rattle.flow_graph.specs.declared.op.Op.{Op}
 use Rattle.flow_graph.specs.declared.op.Op.TheVariants.{Turn}
 use Rattle.flow_graph.specs.Graphs.{Flow, IsPlaced}
-use Rattle.flow_graph.specs.Lives.{Lives}
+use Rattle.flow_graph.specs.Lives.{IsLives, Lives}
 use Rattle.puzzle_board.specs.Places.{PlaceMap, entries_at, spilled_at}
 use Rattle.allocator.specs.PointBoards.{areas_of, point_pieces}
 use Rattle.allocator.specs.PointMaps.{IsLegalMap}
@@ -84,12 +84,13 @@ map_of program flows homes objects addresses =
 
 -- ---- whose map it is
 
--- The home of a graph's variables: its map is legal by these live sets, and at each point exactly the shortest prefix of
--- the spill order is spilled without which the board is solvable. The code of the graph is over this map, with some
--- instructions between its points.
+-- The home of a graph's variables: its map is legal by these live sets, each of which ascends, and at each point exactly
+-- the shortest prefix of the spill order is spilled without which the board is solvable. The code of the graph is over
+-- this map, with some instructions between its points.
 pub record IsHome (flow : Flow) (home : Home) (placement : Placement) : Type 0 where
   pub legal : IsLegalMap flow home.places
   pub same_lives : legal.lives ≡ home.lives
+  pub rising : IsLives home.lives
   pub shortest : (point : ℕ) (op : Op) → IsPlaced flow point → slice_get flow.ops point ≡ Some op
       → IsSpilledAt flow home.lives point op (spilled_at home.places point)
   pub between : ℕ → ℕ → List Insn
