@@ -115,6 +115,7 @@ module _ (laws : Laws) (program : Program) (graphs : GraphProgram) (homes : List
           frame = allocated.allocated.frame;
         };
         same_lives = refl;
+        rising = allocated.rising;
         shortest = allocated.allocated.shortest;
         between = (made-at 0 homes sections h.sections_of k home e).selection.between;
         placement_is = placement-at graphs homes sections h.sections_of linked h.linked_is h.graphs_are k home e;
@@ -209,7 +210,7 @@ module _ (laws : Laws) (program : Program) (graphs : GraphProgram) (homes : List
   compiled : IsCompiled program code the_map
   compiled =
       let is-map = laws.belongs program own_homes code over-homes in
-      let lists = laws.lists program code the_map h.compilable.typed h.lowered.shapes is-map in
+      let lists = laws.lists program code the_map h.compilable.typed h.lowered.shapes h.lowered.marks is-map in
       record {
         lowered = h.lowered;
         laid = is-over.laid;
@@ -223,6 +224,8 @@ module _ (laws : Laws) (program : Program) (graphs : GraphProgram) (homes : List
           is_selected = is-selected;
           shapes = h.lowered.shapes;
           objects = h.lowered.objects;
+          marks = h.lowered.marks;
+          once = h.lowered.once;
           belongs = is-map;
         });
         known = laws.known program (listed the_map) h.compilable.typed lists;

@@ -1,6 +1,6 @@
 -- What the passes make of each function of a program.
 use Rattle.std.specs.Prelude.{◌≤◌, ◌+◌, ℕ, List, [], ◌∷◌, length, ⊤}
-use Rattle.puzzle_board.specs.Places.{PlaceMap}
+use Rattle.flow_graph.specs.Lives.{IsLives}
 use Rattle.allocator.specs.Allocations.{IsAllocation}
 use Rattle.allocator.specs.SplitForms.{IsForm}
 use Rattle.ia32_asm.specs.declared.section.Section.{Section}
@@ -13,9 +13,10 @@ use Rattle.ia32_select.specs.Sizes.{most_bytes}
 use Rattle.map_lines.specs.declared.home.Home.{Home}
 use Rattle.map_lines.specs.Printing.{graph_of}
 
--- the home of a graph's variables: what is live in the graph, and a map that is allocated by it
+-- the home of a graph's variables: what is live in the graph, in ascending order, and a map that is allocated by it
 pub record IsAllocated (home : Home) : Type 0 where
   pub form : IsForm home.form
+  pub rising : IsLives home.form.lives
   pub allocated : IsAllocation home.form home.places
 
 -- the section of a function of this number: items of its graph over its home, assembled

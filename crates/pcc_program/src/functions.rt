@@ -23,6 +23,7 @@ fn home_for(alloc: Global, graph: &Graph) -> Result<Home, NoMemory>
     ensures allocated { IfOk result IsAllocated }
 {
     let lives = live(alloc, graph)?;
+    lives.is_lives();
     let distances = next_use(alloc, graph)?;
     let form = split(alloc, graph, &lives)?;
     form.is_form();

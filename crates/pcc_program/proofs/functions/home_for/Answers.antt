@@ -1,6 +1,7 @@
 -- The graph of a function has a form and room for its frame.
 use Rattle.std.proofs.Common.{◌≡◌, ◌<◌, ◌+◌, ◌*◌, ◌∙◌, length, ap, sym, subst}
 use Rattle.flow_graph.specs.Graphs.{Flow}
+use Rattle.flow_graph.specs.Lives.{IsLives}
 use Rattle.flow_liveness.specs.Distances.{AreDistances}
 use Rattle.allocator.specs.PointMaps.{bytes_of_arrays}
 use Rattle.allocator.specs.SplitForms.{Form}
@@ -30,4 +31,8 @@ returns-clause-graph c = ap (λ (f : Form). f.graph) c.in_ok-form.ensures
 
 pub returns-clause-allocated : goal.returns-clause-allocated
 returns-clause-allocated c =
-    record { form = c.is_form.ensures; allocated = c.in_ok-places.ensures.allocated }
+    record {
+      form = c.is_form.ensures;
+      rising = subst IsLives (sym (ap (λ (f : Form). f.lives) c.in_ok-form.ensures)) c.is_lives.ensures;
+      allocated = c.in_ok-places.ensures.allocated;
+    }
