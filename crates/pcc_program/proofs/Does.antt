@@ -23,7 +23,7 @@ use Rattle.ia32_laws.specs.Right.{ProgramsAreRight}
 use Rattle.ia32_laws.specs.StandingLaws.{IsSelected}
 use Rattle.ia32_rows.specs.Placements.{Code, Placement, objects_of, placement_of, point_address}
 use Rattle.lower_laws.specs.VisitsLaws.{VisitsAreKnown}
-use Rattle.map_lines.specs.declared.home.Home as memory
+use Rattle.map_lines.specs.declared.home.Home as in_code
 use Rattle.map_lines.specs.MapLaws.{HomesMapBelongs, HomesMapBySameAddresses, HomesMapKeepsRules}
 use Rattle.map_lines.specs.MapLaws.{HomesMapListsLocals, HomesMapShowsVisits, IsOverHomes, map_in}
 use Rattle.map_lines.specs.MapOf.{Home, IsHome, map_of}
@@ -60,19 +60,19 @@ same-map : (program : Program) (one other : Map) (image : List ℕ) → one ≡ 
 same-map program one other image e h = subst (λ (m : Map). IsImageOf program m image) e h
 
 -- the home that a home in memory is
-record MemoryAt (homes : List memory.Home) (k : ℕ) (home : Home) : Type 0 where
-  held : memory.Home
+record MemoryAt (homes : List in_code.Home) (k : ℕ) (home : Home) : Type 0 where
+  held : in_code.Home
   there : slice_get homes k ≡ Some held
   is : home_of held ≡ home
 
-memory-at : (homes : List memory.Home) (k : ℕ) (home : Home) → slice_get (map home_of homes) k ≡ Some home
+memory-at : (homes : List in_code.Home) (k : ℕ) (home : Home) → slice_get (map home_of homes) k ≡ Some home
     → MemoryAt homes k home
 memory-at [] k home e = absurd (none-some home e)
 memory-at (x ∷ homes) ℕ.zero home e = record { held = x; there = refl; is = same_Some (home_of x) home e }
 memory-at (x ∷ homes) (ℕ.suc k) home e =
     let at = memory-at homes k home e in record { held = at.held; there = at.there; is = at.is }
 
-module _ (laws : Laws) (program : Program) (graphs : GraphProgram) (homes : List memory.Home)
+module _ (laws : Laws) (program : Program) (graphs : GraphProgram) (homes : List in_code.Home)
     (sections : List Section) (linked : Linked) (h : AreLinked program graphs homes sections linked) where
   abbrev code : Code
   code = linked_code graphs homes sections h.sections_of linked h.linked_is
@@ -95,13 +95,13 @@ module _ (laws : Laws) (program : Program) (graphs : GraphProgram) (homes : List
   is-selected = laws.selects code h.lowered.well_formed have-frames is-over
 
   -- the graph of a home is within the limits
-  pub frame-of : (k : ℕ) (home : memory.Home) → slice_get homes k ≡ Some home
+  pub frame-of : (k : ℕ) (home : in_code.Home) → slice_get homes k ≡ Some home
       → HasFrame (length graphs.functions) (length graphs.objects) (graph_of home)
   frame-of k home e =
       All-at (HasFrame (length graphs.functions) (length graphs.objects)) graphs.functions k (graph_of home)
       have-frames.each (graph-at graphs.functions homes k home h.graphs_are e)
 
-  is-home : (k : ℕ) (home : memory.Home) → slice_get homes k ≡ Some home
+  is-home : (k : ℕ) (home : in_code.Home) → slice_get homes k ≡ Some home
       → IsHome (graph_of home) (home_of home) (placement_of code k)
   is-home k home e =
       let allocated = All-at IsAllocated homes k home h.allocated e in
@@ -149,7 +149,7 @@ module _ (laws : Laws) (program : Program) (graphs : GraphProgram) (homes : List
       }
 
   -- a point of a block stands among the function's items
-  pub point-stands : (k p : ℕ) (home : memory.Home) (e : slice_get homes k ≡ Some home) → IsPlaced (graph_of home) p
+  pub point-stands : (k p : ℕ) (home : in_code.Home) (e : slice_get homes k ≡ Some home) → IsPlaced (graph_of home) p
       → Stands (item.Point p) (made-at 0 homes sections h.sections_of k home e).own
   point-stands k p home e is =
       let made = made-at 0 homes sections h.sections_of k home e in

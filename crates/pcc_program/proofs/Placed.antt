@@ -133,17 +133,17 @@ module _ (graphs : GraphProgram) (homes : List Home) (sections : List Section)
       → IsOverMap flow (placement_of code k) (slice_get code.items k)
   over-map allocated k flow e =
       let at = home-at graphs.functions homes k flow same e in
-      let item = made-at 0 homes sections made k at.home at.there in
+      let here = made-at 0 homes sections made k at.home at.there in
       let allocation = (All-at IsAllocated homes k at.home allocated at.there).allocated in
       subst (λ (g : Flow). IsOverMap g (placement_of code k) (slice_get code.items k)) at.is
       (record {
         places = at.home.places;
-        between = item.selection.between;
+        between = here.selection.between;
         variables = allocation.variables;
         frame = allocation.frame;
-        supports = item.selection.supports;
+        supports = here.selection.supports;
         placement_is = placement-at k at.home at.there;
-        items_are = item.items_there ∙ ap Some item.selection.items_are;
+        items_are = here.items_there ∙ ap Some here.selection.items_are;
       })
 
   pub over-maps : All IsAllocated homes → length linked.image.text.items < 2 ^ 30 + 0x400
