@@ -1,10 +1,12 @@
 -- What one turn of each loop adds.
-use Rattle.std.proofs.Common.{◌≡◌, ◌+◌, ℕ, zero, suc, List, [], ◌∷◌, ◌++◌, map, take, Some, refl, sym, ap, ◌∙◌, subst}
-use Rattle.std.proofs.Common.{arith}
-use Rattle.std.specs.Prelude.{slice_get}
-use Rattle.std.proofs.lemmas.Option.{none-some, same_Some}
+use Rattle.std.proofs.Common.{◌≡◌, ◌<◌, ◌≤◌, ◌+◌, ◌^◌, ℕ, zero, suc, List, [], ◌∷◌, ◌++◌, map, take, Some, refl, sym, ap}
+use Rattle.std.proofs.Common.{arith, ◌∙◌, subst}
+use Rattle.std.specs.Prelude.{slice_get, sum_by}
+use Rattle.std.proofs.lemmas.List.Sums.{get_or-le-sum_by}
+use Rattle.std.proofs.lemmas.Option.{get_or_from_slice_get, none-some, same_Some, slice_get_within}
 use Rattle.flow_graph.specs.Graphs.{Flow}
 use Rattle.ia32_asm.specs.declared.section.Section.{Section}
+use Rattle.ia32_select.specs.Sizes.{most_bytes}
 use Rattle.map_lines.specs.declared.home.Home.{Home}
 use Rattle.map_lines.specs.Printing.{graph_of}
 use Rattle.pcc_program.specs.Passes.{AreSectionsFrom, IsSectionOf}
@@ -61,3 +63,15 @@ sections-more homes sections k home s h e is =
     let plain : k ≡ 0 + k = omega arith in
     subst (λ (n : ℕ). AreSectionsFrom 0 (take n homes) (sections ++ s ∷ [])) one
     (sections-suc 0 homes sections k home s h e (subst (λ (n : ℕ). IsSectionOf home n s) plain is))
+
+-- one of them has no more bytes than all
+pub one-small : (flows : List Flow) (k : ℕ) (flow : Flow) → slice_get flows k ≡ Some flow
+    → sum_by most_bytes flows < 2 ^ 30 → most_bytes flow < 2 ^ 30
+one-small flows k flow e small =
+    let one : most_bytes flow ≤ sum_by most_bytes flows =
+    subst (λ (g : Flow). most_bytes g ≤ sum_by most_bytes flows) (get_or_from_slice_get flows k flow flow e)
+    (get_or-le-sum_by most_bytes flows k flow (slice_get_within flows k flow e)) in
+    below (most_bytes flow) (sum_by most_bytes flows) one small
+  where
+    below : (m n : ℕ) → m ≤ n → n < 2 ^ 30 → m < 2 ^ 30
+    below m n h less = omega arith

@@ -9,7 +9,7 @@ use Rattle.map_lines.specs.declared.home.Home.{Home}
 use Rattle.map_lines.specs.Printing.{graph_of}
 use Rattle.pcc_program.specs.Code.{HasFrame}
 use Rattle.pcc_program.specs.Passes.{AreSectionsFrom, IsAllocated}
-use Rattle.pcc_program.proofs.Loops.{sections-more}
+use Rattle.pcc_program.proofs.Loops.{one-small, sections-more}
 use Rattle.pcc_program.proofs.Placed.{graph-at}
 use Rattle.pcc_program.proofs.functions.sections_of.Goals as goal
 
@@ -33,6 +33,15 @@ section_of-requires-clause-allocated c =
     let home = c.index-homes-function.result in
     All-at IsAllocated homes k home c.requires.allocated
     (slice_get_read homes (length homes) k home refl c.loop-function-test.true c.index-homes-function.is)
+
+pub section_of-requires-clause-small : goal.section_of-requires-clause-small
+section_of-requires-clause-small c =
+    let homes = c.args.homes.now in
+    let k = c.loop-function.function in
+    let home = c.index-homes-function.result in
+    let there = slice_get_read homes (length homes) k home refl c.loop-function-test.true c.index-homes-function.is in
+    one-small (map graph_of homes) k (graph_of home) (graph-at (map graph_of homes) homes k home refl there)
+    c.requires.small
 
 pub loop-function-preserved : goal.loop-function-preserved
 loop-function-preserved c =
