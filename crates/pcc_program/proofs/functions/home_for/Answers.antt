@@ -1,5 +1,5 @@
 -- The graph of a function has a form and room for its frame.
-use Rattle.std.proofs.Common.{◌≡◌, ◌<◌, ◌+◌, ◌*◌, ◌∙◌, length, ap, sym, subst}
+use Rattle.std.proofs.Common.{◌<◌, ◌+◌, ◌*◌, length, ap, sym, subst}
 use Rattle.flow_graph.specs.Graphs.{Flow}
 use Rattle.flow_graph.specs.Lives.{IsLives}
 use Rattle.flow_liveness.specs.Distances.{AreDistances}

@@ -15,8 +15,9 @@ loop-graph-preserved c =
     let k = c.loop-graph.graph-index in
     let homes = c.loop-graph.homes.items in
     subst (λ (hs : List Home). (map graph_of hs ≡ take (k + 1) graphs) × All IsAllocated hs)
-    (sym {A = List Home} c.in_ok-push.ensures.items)
-    (homes-more graphs homes k c.graph-item.result c.in_ok-home_for.field-0 c.loop-graph.invariant.0
-    (slice_get_read graphs (length graphs) k c.graph-item.result refl c.loop-graph-test.true c.graph-item.is)
-    c.in_ok-home_for.ensures.graph,
-    All-push IsAllocated homes c.in_ok-home_for.field-0 c.loop-graph.invariant.1 c.in_ok-home_for.ensures.allocated)
+    (sym {A = List Home} c.in_ok-push.ensures.items) (
+      homes-more graphs homes k c.graph-item.result c.in_ok-home_for.field-0 c.loop-graph.invariant.0
+          (slice_get_read graphs (length graphs) k c.graph-item.result refl c.loop-graph-test.true c.graph-item.is)
+          c.in_ok-home_for.ensures.graph,
+      All-push IsAllocated homes c.in_ok-home_for.field-0 c.loop-graph.invariant.1 c.in_ok-home_for.ensures.allocated,
+    )

@@ -1,5 +1,5 @@
 -- The items of a graph can be assembled.
-use Rattle.std.proofs.Common.{◌≡◌, arith, subst, sym}
+use Rattle.std.proofs.Common.{arith, subst, sym}
 use Rattle.flow_graph.specs.Graphs.{Flow}
 use Rattle.ia32_select.specs.Selections.{CanSelect, IsSelection}
 use Rattle.pcc_program.proofs.Passed.{can-select}

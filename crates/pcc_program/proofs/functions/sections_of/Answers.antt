@@ -1,11 +1,8 @@
 -- One more function has its section.
-use Rattle.std.proofs.Common.{◌≡◌, ◌<◌, ◌+◌, ◌^◌, ℕ, List, Some, length, map, take, option_map, refl, sym, ap, ◌∙◌, subst}
-use Rattle.std.proofs.Common.{arith}
-use Rattle.std.specs.Prelude.{slice_get, sum_by}
-use Rattle.std.proofs.lemmas.Option.{slice_get_read, slice_get-map}
+use Rattle.std.proofs.Common.{◌+◌, List, length, map, take, refl, sym, subst}
+use Rattle.std.proofs.lemmas.Option.{slice_get_read}
 use Rattle.flow_graph.proofs.Lists.{All-at}
 use Rattle.ia32_asm.specs.declared.section.Section.{Section}
-use Rattle.map_lines.specs.declared.home.Home.{Home}
 use Rattle.map_lines.specs.Printing.{graph_of}
 use Rattle.pcc_program.specs.Code.{HasFrame}
 use Rattle.pcc_program.specs.Passes.{AreSectionsFrom, IsAllocated}
