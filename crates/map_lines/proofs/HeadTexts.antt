@@ -10,9 +10,9 @@ use Rattle.pcc_base.specs.declared.run.Width.{Width}
 use Rattle.c_tree.specs.declared.types.IntegerType.TheVariants.{Char, Short, Int}
 use Rattle.c_tree.specs.declared.types.ValueType.{ValueType}
 use Rattle.c_tree.specs.declared.types.ValueType.TheVariants.{Void, Integer, Pointer}
-use Rattle.c_tree.specs.declared.program.Local as built-locals
-use Rattle.c_tree.specs.declared.program.LocalArray as built-arrays
-use Rattle.c_tree.specs.declared.program.StaticObject as built-objects
+use Rattle.c_tree.specs.declared.program.Local as locals
+use Rattle.c_tree.specs.declared.program.LocalArray as arrays
+use Rattle.c_tree.specs.declared.program.StaticObject as objects
 use Rattle.c_tree.specs.Erased.{array_of, local_of, object_of}
 use Rattle.c_tree.specs.Program.{Local, LocalArray, StaticObject}
 use Rattle.c_tree.specs.Sizes.{bytes_of}
@@ -32,8 +32,8 @@ use Rattle.map_lines.proofs.Texts.{made-put, next-put, one_put, text-both}
 -- ---- objects
 
 -- the next object, and the others
-pub objects-put : (text : Line → List ℕ) (start old new : List ℕ) (os : List built-objects.StaticObject)
-    (addresses : List ℕ) (i : ℕ) (d : built-objects.StaticObject) (z : ℕ) → i < length os → i < length addresses
+pub objects-put : (text : Line → List ℕ) (start old new : List ℕ) (os : List objects.StaticObject)
+    (addresses : List ℕ) (i : ℕ) (d : objects.StaticObject) (z : ℕ) → i < length os → i < length addresses
     → old ++ flat_map text (numbered object_lines i (objects_at (map object_of (drop i os)) (drop i addresses))) ≡ start
     → new ≡ old
     ++ text (ObjectLine i (get_or addresses i z) (length (get_or os i d).elements.items) (bytes_of (get_or os i d).element))
@@ -45,7 +45,7 @@ objects-put text start old new os addresses i d z h k all put =
     next-put text object_lines start old new i
     (record { address = address; count = length o.elements; bytes = bytes_of o.element })
     (objects_at (map object_of (drop (i + 1) os)) (drop (i + 1) addresses))
-    (ap (λ (xs : List built-objects.StaticObject). old ++ flat_map text (numbered object_lines i
+    (ap (λ (xs : List objects.StaticObject). old ++ flat_map text (numbered object_lines i
     (objects_at (map object_of xs) (address ∷ drop (i + 1) addresses)))) (sym (drop_more os i d h))
     ∙ ap (λ (zs : List ℕ). old ++ flat_map text (numbered object_lines i (objects_at (map object_of (drop i os)) zs)))
     (sym (drop_more addresses i z k))
@@ -55,16 +55,16 @@ objects-put text start old new os addresses i d z h k all put =
 -- ---- arrays
 
 -- the bytes of an element and the count of each array, as a graph has them
-abbrev pub pairs_of : List built-arrays.LocalArray → List (ℕ × ℕ)
+abbrev pub pairs_of : List arrays.LocalArray → List (ℕ × ℕ)
 pairs_of els = map lowering.array_of (map array_of els)
 
 -- the bytes of an array in a frame
-abbrev pub own_bytes : built-arrays.LocalArray → ℕ
+abbrev pub own_bytes : arrays.LocalArray → ℕ
 own_bytes a = array_bytes (lowering.array_of (array_of a))
 
 -- the next array, and the others
-pub arrays-put : (text : Line → List ℕ) (start old new : List ℕ) (els : List built-arrays.LocalArray)
-    (belows : List ℕ) (i below : ℕ) (d : built-arrays.LocalArray) (z : ℕ) → i < length els → i < length belows
+pub arrays-put : (text : Line → List ℕ) (start old new : List ℕ) (els : List arrays.LocalArray)
+    (belows : List ℕ) (i below : ℕ) (d : arrays.LocalArray) (z : ℕ) → i < length els → i < length belows
     → get_or belows i z ≡ below
     → old ++ flat_map text (numbered array_lines i (arrays_at (map array_of (drop i els)) (drop i belows))) ≡ start
     → new ≡ old ++ text (ArrayLine i below (get_or els i d).count (bytes_of (get_or els i d).element))
@@ -75,7 +75,7 @@ arrays-put text start old new els belows i below d z h k is all put =
     let there = get_or belows i z in
     next-put text array_lines start old new i (record { below = there; count = a.count; bytes = bytes_of a.element })
     (arrays_at (map array_of (drop (i + 1) els)) (drop (i + 1) belows))
-    (ap (λ (xs : List built-arrays.LocalArray). old ++ flat_map text (numbered array_lines i
+    (ap (λ (xs : List arrays.LocalArray). old ++ flat_map text (numbered array_lines i
     (arrays_at (map array_of xs) (there ∷ drop (i + 1) belows)))) (sym (drop_more els i d h))
     ∙ ap (λ (zs : List ℕ). old ++ flat_map text (numbered array_lines i (arrays_at (map array_of (drop i els)) zs)))
     (sym (drop_more belows i z k))
@@ -84,21 +84,21 @@ arrays-put text start old new els belows i below d z h k is all put =
     ∙ one_put text old (ArrayLine i there a.count (bytes_of a.element)))
 
 -- the bytes of the next array, and of the others
-pub bytes-left : (els : List built-arrays.LocalArray) (i : ℕ) (d : built-arrays.LocalArray) → i < length els
+pub bytes-left : (els : List arrays.LocalArray) (i : ℕ) (d : arrays.LocalArray) → i < length els
     → bytes_of_arrays (pairs_of (drop i els))
     ≡ own_bytes (get_or els i d) + bytes_of_arrays (pairs_of (drop (i + 1) els))
 bytes-left els i d h =
-    ap (λ (xs : List built-arrays.LocalArray). bytes_of_arrays (pairs_of xs)) (drop_more els i d h)
+    ap (λ (xs : List arrays.LocalArray). bytes_of_arrays (pairs_of xs)) (drop_more els i d h)
 
 -- the bytes of the arrays so far, and of one more
-pub bytes-taken : (els : List built-arrays.LocalArray) (i : ℕ) (d : built-arrays.LocalArray) → i < length els
+pub bytes-taken : (els : List arrays.LocalArray) (i : ℕ) (d : arrays.LocalArray) → i < length els
     → bytes_of_arrays (pairs_of (take (i + 1) els))
     ≡ bytes_of_arrays (pairs_of (take i els)) + own_bytes (get_or els i d)
 bytes-taken els i d h =
     let next : i + 1 ≡ suc i = omega arith in
     ap (λ (n : ℕ). bytes_of_arrays (pairs_of (take n els))) next ∙ more els i h
   where
-    more : (xs : List built-arrays.LocalArray) (k : ℕ) → k < length xs
+    more : (xs : List arrays.LocalArray) (k : ℕ) → k < length xs
         → bytes_of_arrays (pairs_of (take (suc k) xs))
         ≡ bytes_of_arrays (pairs_of (take k xs)) + own_bytes (get_or xs k d)
     more [] k h = absurd (omega (arith, h))
@@ -114,24 +114,24 @@ bytes-taken els i d h =
         sums a b more fewer e = omega (arith, e)
 
 -- the first arrays, as a graph has them
-pairs-taken : (n : ℕ) (els : List built-arrays.LocalArray) → take n (pairs_of els) ≡ pairs_of (take n els)
+pairs-taken : (n : ℕ) (els : List arrays.LocalArray) → take n (pairs_of els) ≡ pairs_of (take n els)
 pairs-taken zero els = refl
 pairs-taken (suc n) [] = refl
 pairs-taken (suc n) (x ∷ els) = ap (λ (ps : List (ℕ × ℕ)). lowering.array_of (array_of x) ∷ ps) (pairs-taken n els)
 
 -- as many arrays in the graph
-pairs-many : (els : List built-arrays.LocalArray) → length (pairs_of els) ≡ length els
+pairs-many : (els : List arrays.LocalArray) → length (pairs_of els) ≡ length els
 pairs-many [] = refl
 pairs-many (x ∷ els) = ap suc (pairs-many els)
 
 -- there are as many arrays in a graph's frame
-pub belows-many : (flow : Flow) (places : PlaceMap) (els : List built-arrays.LocalArray) → flow.arrays ≡ pairs_of els
+pub belows-many : (flow : Flow) (places : PlaceMap) (els : List arrays.LocalArray) → flow.arrays ≡ pairs_of els
     → length (arrays_in flow places) ≡ length els
 belows-many flow places els same =
     length-map-range_with_len (array_below flow places) 0 (length flow.arrays) ∙ ap length same ∙ pairs-many els
 
 -- where the next array stands
-pub below-next : (flow : Flow) (places : PlaceMap) (els : List built-arrays.LocalArray) (i z header : ℕ)
+pub below-next : (flow : Flow) (places : PlaceMap) (els : List arrays.LocalArray) (i z header : ℕ)
     → flow.arrays ≡ pairs_of els → i < length els
     → header + bytes_of_arrays (pairs_of (take i els)) ≡ places.frame
     → get_or (arrays_in flow places) i z ≡ header - 4
@@ -167,16 +167,16 @@ all-many (l ∷ ls) =
     ∙ sym (length-append (type_widths l.of) (local_widths ls))
 
 -- the widths of the next local and of the others
-pub widths-next : (ls : List built-locals.Local) (i : ℕ) (d : built-locals.Local) → i < length ls
+pub widths-next : (ls : List locals.Local) (i : ℕ) (d : locals.Local) → i < length ls
     → length (local_widths (map local_of (drop i ls)))
     ≡ length (type_widths (get_or ls i d).of) + length (local_widths (map local_of (drop (i + 1) ls)))
 widths-next ls i d h =
-    ap (λ (xs : List built-locals.Local). length (local_widths (map local_of xs))) (drop_more ls i d h)
+    ap (λ (xs : List locals.Local). length (local_widths (map local_of xs))) (drop_more ls i d h)
     ∙ length-append (type_widths (get_or ls i d).of) (local_widths (map local_of (drop (i + 1) ls)))
 
 -- the variables of the next local, and those of the others
-pub locals-put : (text : Line → List ℕ) (start old new : List ℕ) (ls : List built-locals.Local) (i n next : ℕ)
-    (d : built-locals.Local) → i < length ls → next ≡ n + length (type_widths (get_or ls i d).of)
+pub locals-put : (text : Line → List ℕ) (start old new : List ℕ) (ls : List locals.Local) (i n next : ℕ)
+    (d : locals.Local) → i < length ls → next ≡ n + length (type_widths (get_or ls i d).of)
     → old ++ flat_map text (numbered variable_lines n (flat_map local_variables (map local_of (drop i ls)))) ≡ start
     → new ≡ old ++ flat_map text (numbered variable_lines n (local_variables (local_of (get_or ls i d))))
     → new ++ flat_map text (numbered variable_lines next (flat_map local_variables (map local_of (drop (i + 1) ls))))
@@ -190,7 +190,7 @@ locals-put text start old new ls i n next d h is all put =
     ∙ ap (λ (t : List ℕ). t ++ flat_map text (numbered variable_lines (n + length (local_variables l)) rest)) put
     ∙ append_assoc old here (flat_map text (numbered variable_lines (n + length (local_variables l)) rest))
     ∙ ap (λ (t : List ℕ). old ++ t) (sym (text-both text variable_lines n (local_variables l) rest))
-    ∙ ap (λ (xs : List built-locals.Local). old ++ flat_map text (numbered variable_lines n
+    ∙ ap (λ (xs : List locals.Local). old ++ flat_map text (numbered variable_lines n
     (flat_map local_variables (map local_of xs)))) (sym (drop_more ls i d h))
     ∙ all
 
