@@ -1,5 +1,5 @@
 -- The text of functions, and that of a whole map.
-use Rattle.std.proofs.Common.{◌≡◌, ◌<◌, ◌≤◌, ℕ, suc, ◌+◌, List, [], ◌∷◌, ◌++◌, drop, get_or, length, map, Some, refl}
+use Rattle.std.proofs.Common.{◌≡◌, ◌<◌, ◌≤◌, ℕ, zero, suc, ◌+◌, List, [], ◌∷◌, ◌++◌, drop, get_or, length, map, Some, refl}
 use Rattle.std.proofs.Common.{sym, ap, subst, ◌∙◌, arith, append_assoc}
 use Rattle.std.specs.Prelude.{option_map, slice_get, slice_index, slice_index_or}
 use Rattle.std.specs.List.{AllByRecursion, flat_map}
@@ -79,6 +79,23 @@ functions-put text start old new fs homes table i d e addresses h k is all put =
     ∙ all)
     (put ∙ ap (λ (ps : List ℕ). old ++ flat_map text (function_lines i
     (function_over f (graph_of home) (home_of home) (λ p. slice_index ps p)))) (sym is))
+
+-- behind the last function nothing more stands
+pub functions-past : (text : Line → List ℕ) (start old : List ℕ) (fs : List built.Function) (n : ℕ) (flows : List Flow)
+    (homes : List Home) (addresses : ℕ → ℕ → ℕ) → length fs ≤ n
+    → old ++ flat_map text (numbered function_lines n (functions_over n (map function_of (drop n fs)) flows homes addresses))
+    ≡ start → old ≡ start
+functions-past text start old fs n flows homes addresses past all =
+    sym (append-nil old)
+    ∙ ap (λ (xs : List built.Function). old ++ flat_map text (numbered function_lines n
+    (functions_over n (map function_of xs) flows homes addresses))) (sym (dropped fs n past))
+    ∙ all
+  where
+    dropped : {X : Type 0} (xs : List X) (k : ℕ) → length xs ≤ k → drop k xs ≡ []
+    dropped [] zero h = refl
+    dropped [] (suc k) h = refl
+    dropped (x ∷ xs) zero h = absurd (omega (arith, h))
+    dropped (x ∷ xs) (suc k) h = dropped xs k (omega (arith, h))
 
 -- a map's first line, its objects, its functions and its last line
 pub map-put : (text : Line → List ℕ) (m : Map) (one two three four : List ℕ) → one ≡ [] ++ text TitleLine

@@ -130,6 +130,14 @@ pub belows-many : (flow : Flow) (places : PlaceMap) (els : List arrays.LocalArra
 belows-many flow places els same =
     length-map-range_with_len (array_below flow places) 0 (length flow.arrays) ∙ ap length same ∙ pairs-many els
 
+-- each array has bytes
+pub arrays-few : (els : List arrays.LocalArray) → length els ≤ bytes_of_arrays (pairs_of els)
+arrays-few [] = omega arith
+arrays-few (x ∷ els) = counted (own_bytes x) (bytes_of_arrays (pairs_of els)) (length els) (omega arith) (arrays-few els)
+  where
+    counted : (own rest many : ℕ) → 1 ≤ own → many ≤ rest → suc many ≤ own + rest
+    counted own rest many e f = omega (arith, e, f)
+
 -- where the next array stands
 pub below-next : (flow : Flow) (places : PlaceMap) (els : List arrays.LocalArray) (i z header : ℕ)
     → flow.arrays ≡ pairs_of els → i < length els

@@ -1,16 +1,17 @@
-use Rattle.std.proofs.Common.{◌≡◌, ◌++◌, ℕ, List, [], get_or, length, map, Some, Vec, Global, sym, ap, ◌∙◌, subst, arith}
+use Rattle.std.proofs.Common.{◌≡◌, ◌≤◌, ◌++◌, ℕ, List, [], get_or, length, map, Some, Vec, Global, sym, ap, ◌∙◌, subst, arith}
 use Rattle.std.specs.Prelude.{slice_get, slice_index}
 use Rattle.std.specs.List.{AllByRecursion, flat_map}
 use Rattle.std.proofs.lemmas.List.{length-map}
 use Rattle.std.proofs.lemmas.Option.{get_or_from_slice_get, slice_get-get_or}
 use Rattle.c_tree.specs.declared.program.Function.{Function}
 use Rattle.c_tree.specs.declared.program.StaticObject.{StaticObject}
-use Rattle.c_tree.specs.Erased.{function_of, program_of}
-use Rattle.map_text.specs.Words.{function_lines, line_text}
+use Rattle.c_tree.specs.Erased.{function_of, object_of, program_of}
+use Rattle.map_text.specs.Words.{TitleLine, function_lines, line_text, numbered, object_lines}
 use Rattle.map_lines.specs.declared.home.Home.{Home}
+use Rattle.map_lines.specs.Belongs.{objects_at}
 use Rattle.map_lines.specs.MapOf.{function_over, map_of}
 use Rattle.map_lines.specs.Printing.{address_in, graph_of, home_of}
-use Rattle.map_lines.proofs.FunctionTexts.{can-at, functions-put, made-at, map-put, small-objects}
+use Rattle.map_lines.proofs.FunctionTexts.{can-at, functions-past, functions-put, made-at, map-put, small-objects}
 use Rattle.map_lines.proofs.printed.print_map.Goals as goal
 
 abbrev entries : Vec ℕ Global → List ℕ
@@ -76,4 +77,19 @@ loop-number-preserved c =
     c.index-homes-number.is)
 
 pub returns : goal.returns
-returns c = ?
+returns c =
+    let program = program_of c.args.program.now in
+    let homes = c.args.homes.now in
+    let table = map entries c.args.points.now in
+    let one = c.push_title.new.out.items in
+    let two = c.print_objects.new.out.items in
+    let done = rw c.deref-function-items.ensures.value at c.loop-number-test.false in
+    map-put line_text (map_of program (map graph_of homes) (map home_of homes) c.args.objects.now (address_in table))
+    one two c.loop-number.out.items _
+    (c.in_ok-push_title.ensures ∙ ap (λ (t : List ℕ). t ++ line_text TitleLine) c.new-out.ensures.items)
+    (c.in_ok-print_objects.ensures
+    ∙ ap (λ (os : List StaticObject). one ++ flat_map line_text (numbered object_lines 0
+    (objects_at (map object_of os) c.args.objects.now))) c.as_slice.ensures.value)
+    (functions-past line_text _ _ c.args.program.now.functions.items c.loop-number.number _ _ _ done
+    c.loop-number.invariant)
+    c.in_ok-push_end.ensures

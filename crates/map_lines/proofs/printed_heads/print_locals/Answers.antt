@@ -18,10 +18,10 @@ loop-local-preserved c =
     let h = c.loop-local-test.true in
     let widths = ap (λ (l : Local). length (type_widths l.of)) c.local-item.is in
     record {
-      lines = locals-put line_text _ old _ ls i n _ x h (omega (arith, c.variables_in.ensures, widths))
+      lines = locals-put line_text _ old _ ls i n _ x h (omega (arith, c.variables_in-number.ensures, widths))
           c.loop-local.invariant.lines
           (c.in_ok-print_local.ensures
           ∙ ap (λ (l : Local). old ++ flat_map line_text (numbered variable_lines n (local_variables (local_of l))))
           c.local-item.is);
-      many = omega (arith, c.loop-local.invariant.many, c.variables_in.ensures, widths, widths-next ls i x h);
+      many = omega (arith, c.loop-local.invariant.many, c.variables_in-number.ensures, widths, widths-next ls i x h);
     }

@@ -26,7 +26,7 @@ loop-block-preserved c =
     let points = c.as_slice.ensures.value ∙ c.in_ok-points.ensures
     ∙ ap (λ (flow : Flow). points_of flow i) c.graph-graph.ensures in
     let many = ap (λ (flow : Flow). length flow.blocks) c.graph-graph.ensures in
-    let h : i < length flow.blocks = omega (arith, c.loop-block-test.true, c.blocks.ensures, many) in
+    let h : i < length flow.blocks = omega (arith, c.loop-block-test.true, c.blocks-block-end.ensures, many) in
     made-put line_text block_lines (block_over flow (home_of home) address) _ old _ flow.blocks i [] h
     c.loop-block.invariant
     (block-put line_text i (block_over flow (home_of home) address (points_of flow i)) old one _
