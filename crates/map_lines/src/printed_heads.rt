@@ -108,12 +108,7 @@ pub(crate) fn print_arrays(
 
 /// Puts the line of the variable of an integer local at the end.
 #[tactic(auto, using(crate::proofs::Texts::one_put))]
-fn print_scalar(
-    out: &mut Vec<u8>,
-    number: u32,
-    width: Width,
-    name: &Name,
-) -> Result<(), NoMemory>
+fn print_scalar(out: &mut Vec<u8>, number: u32, width: Width, name: &Name) -> Result<(), NoMemory>
     ensures { OnOk result (
         out.new.items
         ≡ out.old.items ++ flat_map line_text (VariableLine number width (NamesScalar name.now) ∷ [])) }

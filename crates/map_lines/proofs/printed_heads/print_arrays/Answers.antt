@@ -1,4 +1,4 @@
-use Rattle.std.proofs.Common.{◌≡◌, ◌≤◌, ◌+◌, ◌-◌, ◌++◌, ℕ, get_or, length, sym, ap, ◌∙◌, arith}
+use Rattle.std.proofs.Common.{◌-◌, ◌++◌, ℕ, ap, ◌∙◌, arith}
 use Rattle.c_tree.specs.declared.program.LocalArray.{LocalArray}
 use Rattle.c_tree.specs.Sizes.{bytes_of}
 use Rattle.allocator.specs.PointMaps.{bytes_of_arrays}
@@ -42,7 +42,14 @@ loop-number-preserved c =
           ∙ ap (λ (n : ℕ). old ++ line_text (ArrayLine i (header - 4) x.count n)) c.bytes_of.ensures
           ∙ ap (λ (a : LocalArray). old ++ line_text (ArrayLine i (header - 4) a.count (bytes_of a.element)))
           c.index-arrays-number.is);
-      header = omega (arith, c.loop-number.invariant.header, c.array_bytes-header.ensures, own, taken, left,
-          c.loop-number.invariant.room);
+      header = omega (
+        arith,
+        c.loop-number.invariant.header,
+        c.array_bytes-header.ensures,
+        own,
+        taken,
+        left,
+        c.loop-number.invariant.room,
+      );
       room = omega (arith, c.loop-number.invariant.room, c.array_bytes-header.ensures, own, left);
     }

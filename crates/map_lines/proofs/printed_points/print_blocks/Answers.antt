@@ -1,6 +1,6 @@
-use Rattle.std.proofs.Common.{◌≡◌, ◌<◌, ◌++◌, ℕ, List, [], length, sym, ap, subst, ◌∙◌, arith}
+use Rattle.std.proofs.Common.{◌<◌, ◌++◌, ℕ, List, [], length, ap, subst, ◌∙◌, arith}
 use Rattle.std.specs.List.{flat_map}
-use Rattle.std.specs.Prelude.{slice_index, slice_index_or}
+use Rattle.std.specs.Prelude.{slice_index}
 use Rattle.flow_graph.specs.Graphs.{Flow, IsIn, points_of}
 use Rattle.map_text.specs.Words.{block_lines, line_text, point_lines}
 use Rattle.map_lines.specs.MapOf.{block_over}
