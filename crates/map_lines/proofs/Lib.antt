@@ -23,3 +23,7 @@ pub mod VisitsVariables
 pub mod Values
 pub mod Marks
 pub mod Visits
+pub mod Texts
+pub mod HeadTexts
+pub mod PointTexts
+pub mod FunctionTexts

@@ -14,6 +14,8 @@ mod laws;
 mod map_laws;
 mod points;
 mod printed;
+mod printed_heads;
+mod printed_points;
 mod program;
 mod variables;
 mod visits_laws;
