@@ -57,7 +57,7 @@ piece-width : (flow : Flow) (lives : Lives) (point : ℕ) (o : Op) (p : Piece)
 piece-width flow lives point o p h =
     let (v, is) = piece-is flow lives point o p h in
     elim is [
-      | inl use-is ↦ subst (λ (q : Piece). q.width ≡ width_at flow q.var) use-is.2 refl
+      | inl read-is ↦ subst (λ (q : Piece). q.width ≡ width_at flow q.var) read-is.2 refl
       | inr made-is ↦ subst (λ (q : Piece). q.width ≡ width_at flow q.var) made-is.2 refl
     ]
 
