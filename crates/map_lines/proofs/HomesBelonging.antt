@@ -18,7 +18,7 @@ use Rattle.map_text.specs.Maps.{MapFunction, MapPoint, points_of}
 use Rattle.map_text.specs.Marks.{MarkAt, mark_at, marks_from}
 use Rattle.map_lines.specs.MapOf.{Home, function_over, functions_over}
 use Rattle.map_lines.specs.MapLaws.{HomesMapBelongs}
-use Rattle.map_lines.proofs.Blocks.{all_points, placed-in}
+use Rattle.map_lines.proofs.Blocks.{placed-in}
 use Rattle.map_lines.proofs.HomesMarks.{functions-all, mark_made, points-all}
 use Rattle.map_lines.proofs.HomesPoints.{each-point, function-from, op-there}
 

@@ -1,5 +1,5 @@
 -- The pieces of a point's board, the variables that are spilled there, and its op, by the rules of a map.
-use Rattle.std.proofs.Common.{◌≡◌, ◌<◌, ℕ, zero, suc, Bool, true, false, List, [], ◌∷◌, length, map, Some, refl, sym, ap}
+use Rattle.std.proofs.Common.{◌≡◌, ◌<◌, ℕ, suc, Bool, true, false, List, [], ◌∷◌, length, map, Some, refl, sym, ap}
 use Rattle.std.proofs.Common.{◌∙◌, subst, arith, inl, inr}
 use Rattle.std.specs.Prelude.{slice_get, slice_index_or}
 use Rattle.std.specs.List.{AllByRecursion, All}
@@ -25,7 +25,7 @@ use Rattle.allocator.specs.Spills.{HasPiece, IsSpilledAt}
 use Rattle.allocator.proofs.Members.{Has, piece-is}
 use Rattle.allocator.proofs.Ordered.{all-of, pieces-order, vars-within}
 use Rattle.allocator.proofs.Solving.{spilled-pieces}
-use Rattle.map_text.specs.Maps.{HasNumber, HasNumbers, MapPoint, MapVariable}
+use Rattle.map_text.specs.Maps.{HasNumber, HasNumbers, MapVariable}
 use Rattle.map_text.specs.Rules.{AreInOrder, IsMapBlock, IsMapPiece}
 use Rattle.map_lines.specs.MapOf.{Home, block_over}
 use Rattle.map_lines.proofs.HomesPlaces.{variable-at}

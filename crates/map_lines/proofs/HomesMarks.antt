@@ -1,5 +1,5 @@
 -- What holds of the marks of a map, of the marks of its functions' points.
-use Rattle.std.proofs.Common.{◌≡◌, ℕ, suc, ◌+◌, Bool, true, false, List, [], ◌∷◌, ◌++◌, eqb, Option, Some, None, refl}
+use Rattle.std.proofs.Common.{◌≡◌, ℕ, suc, ◌+◌, Bool, true, false, List, [], ◌∷◌, eqb, Option, Some, None, refl}
 use Rattle.std.proofs.Common.{ap, subst, arith}
 use Rattle.std.specs.Prelude.{filter_map, if◌then◌else◌, option_map, slice_get}
 use Rattle.std.specs.List.{AllByRecursion, cons_option}

@@ -9,7 +9,7 @@ use Rattle.std.proofs.lemmas.Option.{none-some, same_Some}
 use Rattle.pcc_base.specs.declared.run.Width.{Width}
 use Rattle.pcc_base.specs.declared.run.Width.TheVariants.{One, Two}
 use Rattle.flow_graph.specs.declared.op.Op.{Op}
-use Rattle.flow_graph.specs.Graphs.{Flow, IsFlow, IsIn, IsPlaced}
+use Rattle.flow_graph.specs.Graphs.{Flow, IsFlow, IsPlaced}
 use Rattle.flow_graph.specs.Liveness.{defined}
 use Rattle.flow_graph.specs.Lives.{IsAscending, at_point}
 use Rattle.flow_graph.proofs.Points.{every-in}

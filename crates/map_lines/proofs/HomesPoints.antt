@@ -13,7 +13,7 @@ use Rattle.flow_graph.specs.Graphs.{FitsOp, Flow, HasFittingOp, IsFlow, IsIn, Is
 use Rattle.flow_graph.proofs.Points.{every-from, every-in}
 use Rattle.map_text.specs.Maps.{Map, MapFunction, MapPoint, points_of}
 use Rattle.map_lines.specs.Belongs.{arrays_at, objects_at}
-use Rattle.map_lines.specs.MapOf.{Home, block_over, function_over, functions_over, map_of, point_over, variables_over}
+use Rattle.map_lines.specs.MapOf.{Home, block_over, function_over, functions_over, point_over, variables_over}
 use Rattle.map_lines.specs.MapLaws.{HomesMapBySameAddresses}
 use Rattle.map_lines.proofs.Blocks.{all_points, in-back, in-front, placed-in}
 use Rattle.ia32_placements.specs.Placed.{arrays_in}

@@ -1,15 +1,14 @@
 -- The map of a program over homes keeps the rules of a map, where functions and locals have names.
-use Rattle.std.proofs.Common.{◌≡◌, ◌<◌, ◌≤◌, ◌^◌, ℕ, ◌+◌, List, [], length, map, Some, sym, ap, ◌∙◌, subst, arith}
+use Rattle.std.proofs.Common.{◌≡◌, ◌<◌, ◌≤◌, ◌^◌, ℕ, ◌+◌, List, length, map, Some, sym, ap, ◌∙◌, subst, arith}
 use Rattle.std.specs.Prelude.{slice_get}
 use Rattle.std.specs.List.{AllByRecursion, All}
 use Rattle.std.proofs.lemmas.List.{length-map}
 use Rattle.std.proofs.lemmas.List.Elements.{All-from_recursion, recursion_from_All}
 use Rattle.std.proofs.lemmas.Option.{slice_get_within}
-use Rattle.pcc_base.specs.declared.run.Width.{Width}
 use Rattle.pcc_base.proofs.Lists.{all-at}
 use Rattle.c_tree.specs.Program.{Function, Program}
 use Rattle.flow_graph.specs.declared.op.Op.{Op}
-use Rattle.flow_graph.specs.Graphs.{Flow, IsDistinct, IsFlow, IsIn, LastIsEnd, NumbersFit, Stands}
+use Rattle.flow_graph.specs.Graphs.{Flow, IsDistinct, IsIn, LastIsEnd, NumbersFit, Stands}
 use Rattle.flow_graph.specs.Lives.{AreLive, IsAscending, Lives, at_point}
 use Rattle.flow_graph.specs.WellFormed.{IsGraph, NamesWithin}
 use Rattle.flow_graph.proofs.Ascending.{ascending-at}
@@ -20,12 +19,12 @@ use Rattle.ia32_rows.specs.Placements.{Code, Placement, objects_of, placement_of
 use Rattle.ia32_laws.specs.Supports.{AreArraysIn}
 use Rattle.ia32_laws.specs.StandingLaws.{PointsStand}
 use Rattle.ia32_placements.specs.Placed.{arrays_in}
-use Rattle.map_text.specs.Maps.{IsMapArray, IsMapObject, IsMapOp, IsMapVariable, Map, MapFunction, MapPoint}
-use Rattle.map_text.specs.Maps.{MapVariable, flow_of, points_of}
-use Rattle.map_text.specs.Rules.{IsMap, IsMapBlock, IsMapFunction, IsMapPoint}
-use Rattle.map_lines.specs.Belongs.{arrays_at, objects_at}
+use Rattle.map_text.specs.Maps.{IsMapArray, IsMapObject, IsMapOp, Map, MapFunction}
+use Rattle.map_text.specs.Maps.{flow_of, points_of}
+use Rattle.map_text.specs.Rules.{IsMapBlock, IsMapFunction, IsMapPoint}
+use Rattle.map_lines.specs.Belongs.{arrays_at}
 use Rattle.map_lines.specs.Laws.{IsNamedFunction}
-use Rattle.map_lines.specs.MapOf.{Home, IsHome, block_over, function_over, functions_over, point_over, variables_over}
+use Rattle.map_lines.specs.MapOf.{Home, IsHome, block_over, function_over, point_over, variables_over}
 use Rattle.map_lines.specs.MapLaws.{HomesMapKeepsRules, IsOverHomes, map_in}
 use Rattle.map_lines.proofs.Blocks.{all-distinct, all_points, placed-in}
 use Rattle.map_lines.proofs.HomesBelonging.{flow-is, graph-of}

@@ -1,5 +1,5 @@
 -- Numbers of elements that are distinct are so in any order, and those in front are too.
-use Rattle.std.proofs.Common.{◌≡◌, ◌≢◌, ◌≤◌, ℕ, zero, suc, ◌+◌, Bool, true, false, cond, List, [], ◌∷◌, eqb, map, take}
+use Rattle.std.proofs.Common.{◌≡◌, ◌≢◌, ◌≤◌, ℕ, zero, suc, ◌+◌, Bool, true, false, List, [], ◌∷◌, eqb, map, take}
 use Rattle.std.proofs.Common.{refl, sym, ap, ◌∙◌, subst, arith, inl, inr}
 use Rattle.std.specs.Prelude.{sum_by}
 use Rattle.std.specs.List.{AllByRecursion}
@@ -12,14 +12,18 @@ use Rattle.flow_graph.specs.Graphs.{IsDistinct}
 
 -- ---- how often a number occurs
 
+abbrev one_if : Bool → ℕ
+one_if true = 1
+one_if false = 0
+
 abbrev occurs : ℕ → List ℕ → ℕ
 occurs v [] = 0
-occurs v (w ∷ ws) = cond (eqb w v) 1 0 + occurs v ws
+occurs v (w ∷ ws) = one_if (eqb w v) + occurs v ws
 
 none-occurs : (v : ℕ) (ws : List ℕ) → AllByRecursion (λ q. q ≢ v) ws → occurs v ws ≡ 0
 none-occurs v [] away = refl
 none-occurs v (w ∷ ws) away =
-    let first : cond (eqb w v) 1 0 ≡ 0 = ap (λ (b : Bool). cond b 1 0) (ne_eqb w v away.0) in
+    let first : one_if (eqb w v) ≡ 0 = ap (λ (b : Bool). one_if b) (ne_eqb w v away.0) in
     let rest = none-occurs v ws away.1 in
     omega (arith, first, rest)
 
@@ -28,11 +32,11 @@ once-occurs [] once v = omega arith
 once-occurs (w ∷ ws) once v =
     elim (eqb_tells w v) [
       | inl same ↦
-          let first : cond (eqb w v) 1 0 ≡ 1 = ap (λ (b : Bool). cond b 1 0) same.0 in
+          let first : one_if (eqb w v) ≡ 1 = ap (λ (b : Bool). one_if b) same.0 in
           let rest = none-occurs v ws (subst (λ (x : ℕ). AllByRecursion (λ q. q ≢ x) ws) same.1 once.0) in
           omega (arith, first, rest)
       | inr other ↦
-          let first : cond (eqb w v) 1 0 ≡ 0 = ap (λ (b : Bool). cond b 1 0) other.0 in
+          let first : one_if (eqb w v) ≡ 0 = ap (λ (b : Bool). one_if b) other.0 in
           let rest = once-occurs ws once.1 v in
           omega (arith, first, rest)
     ]
@@ -40,15 +44,15 @@ once-occurs (w ∷ ws) once v =
 away-from : (v : ℕ) (ws : List ℕ) → occurs v ws ≡ 0 → AllByRecursion (λ q. q ≢ v) ws
 away-from v [] none = tt
 away-from v (w ∷ ws) none = (
-  λ same. (let first : cond (eqb w v) 1 0 ≡ 1 = ap (λ (b : Bool). cond b 1 0) (eq-eqb w v same) in
-  absurd (omega (arith, first, none))),
+  λ same. (let first : one_if (eqb w v) ≡ 1 = ap (λ (b : Bool). one_if b) (eq-eqb w v same) in
+      absurd (omega (arith, first, none))),
   away-from v ws (omega (arith, none)),
 )
 
 occurs-once : (vs : List ℕ) → ((v : ℕ) → occurs v vs ≤ 1) → IsDistinct vs
 occurs-once [] once = tt
 occurs-once (w ∷ ws) once =
-    let first : cond (eqb w w) 1 0 ≡ 1 = ap (λ (b : Bool). cond b 1 0) (eq-eqb w w refl) in
+    let first : one_if (eqb w w) ≡ 1 = ap (λ (b : Bool). one_if b) (eq-eqb w w refl) in
     let own = once w in (
       away-from w ws (omega (arith, first, own)),
       occurs-once ws (λ v. let all = once v in omega (arith, all)),
@@ -57,11 +61,11 @@ occurs-once (w ∷ ws) once =
 -- ---- in any order
 
 occurs-sum : {X : Type 0} (xs : List X) (f : X → ℕ) (v : ℕ)
-    → occurs v (map f xs) ≡ sum_by (λ x. cond (eqb (f x) v) 1 0) xs
+    → occurs v (map f xs) ≡ sum_by (λ x. one_if (eqb (f x) v)) xs
 occurs-sum [] f v = refl
 occurs-sum {X} (x ∷ xs) f v =
-    ap (λ (n : ℕ). cond (eqb (f x) v) 1 0 + n) (occurs-sum xs f v)
-    ∙ sym (sum_by-cons (λ (y : X). cond (eqb (f y) v) 1 0) x xs)
+    ap (λ (n : ℕ). one_if (eqb (f x) v) + n) (occurs-sum xs f v)
+    ∙ sym (sum_by-cons (λ (y : X). one_if (eqb (f y) v)) x xs)
 
 pub permuted-once : {X : Type 0} (xs ys : List X) (f : X → ℕ) → IsPermutation xs ys → IsDistinct (map f xs)
     → IsDistinct (map f ys)
@@ -69,7 +73,7 @@ permuted-once {X} xs ys f permuted once =
     occurs-once (map f ys)
     (λ v.
     let same : occurs v (map f ys) ≡ occurs v (map f xs) = occurs-sum ys f v
-    ∙ (sum_by-IsPermutation (λ (y : X). cond (eqb (f y) v) 1 0) xs ys permuted ∙ sym (occurs-sum xs f v)) in
+    ∙ (sum_by-IsPermutation (λ (y : X). one_if (eqb (f y) v)) xs ys permuted ∙ sym (occurs-sum xs f v)) in
     let all = once-occurs (map f xs) once v in
     omega (arith, same, all))
 
