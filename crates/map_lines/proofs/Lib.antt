@@ -27,3 +27,12 @@ pub mod Texts
 pub mod HeadTexts
 pub mod PointTexts
 pub mod FunctionTexts
+pub mod HomesPoints
+pub mod HomesMarks
+pub mod HomesBelonging
+pub mod HomesListing
+pub mod Permuted
+pub mod HomesPlaces
+pub mod HomesBoards
+pub mod HomesObjects
+pub mod HomesRules
