@@ -9,11 +9,13 @@ pub mod Standings
 pub mod OwnedVariables
 pub mod Owners
 pub mod Functions
+pub mod OnceMarked
 pub mod Marking
 pub mod Belonging
 pub mod Rules
 pub mod Listing
 pub mod Among
+pub mod Tells
 pub mod Between
 pub mod Found
 pub mod Memory
@@ -23,3 +25,7 @@ pub mod VisitsVariables
 pub mod Values
 pub mod Marks
 pub mod Visits
+pub mod ToldSlots
+pub mod LivePlaces
+pub mod HomePoints
+pub mod ToldHomes

@@ -66,6 +66,8 @@ pub record HasMapOf (program : Program) (code : Code) (m : Map) : Type 0 where
   pub is_selected : IsSelected code
   pub shapes : HaveShapes program code.program
   pub objects : HasObjects program code.program
+  pub marks : HaveMarks program code.program
+  pub once : MarksOnce code.program
   pub belongs : IsMapOf program code m
 
 -- At a mark a map shows the statement and the values of the parts of locals that it lists, and nothing elsewhere.

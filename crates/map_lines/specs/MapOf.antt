@@ -8,7 +8,7 @@ use Rattle.c_tree.specs.Program.{Function, Program}
 use Rattle.flow_graph.specs.declared.op.Op.{Op}
 use Rattle.flow_graph.specs.declared.op.Op.TheVariants.{Turn}
 use Rattle.flow_graph.specs.Graphs.{Flow, IsPlaced}
-use Rattle.flow_graph.specs.Lives.{Lives}
+use Rattle.flow_graph.specs.Lives.{IsLives, Lives}
 use Rattle.puzzle_board.specs.Places.{PlaceMap, entries_at, spilled_at}
 use Rattle.allocator.specs.PointBoards.{areas_of, point_pieces}
 use Rattle.allocator.specs.PointMaps.{IsLegalMap}
@@ -90,6 +90,7 @@ map_of program flows homes objects addresses =
 pub record IsHome (flow : Flow) (home : Home) (placement : Placement) : Type 0 where
   pub legal : IsLegalMap flow home.places
   pub same_lives : legal.lives ≡ home.lives
+  pub rising : IsLives home.lives
   pub shortest : (point : ℕ) (op : Op) → IsPlaced flow point → slice_get flow.ops point ≡ Some op
       → IsSpilledAt flow home.lives point op (spilled_at home.places point)
   pub between : ℕ → ℕ → List Insn
