@@ -1,5 +1,5 @@
 -- The functions of the whole map by their numbers, and their points, which are those of the graphs' blocks.
-use Rattle.std.proofs.Common.{◌≡◌, ℕ, zero, suc, ◌+◌, List, [], ◌∷◌, ◌++◌, length, map, Some, refl, sym, ap, subst, ◌∙◌}
+use Rattle.std.proofs.Common.{◌≡◌, ℕ, zero, suc, ◌+◌, List, [], ◌∷◌, length, map, Some, refl, sym, ap, subst, ◌∙◌}
 use Rattle.std.proofs.Common.{arith, inl, inr}
 use Rattle.std.specs.Prelude.{flat_map, slice_get, slice_index_or}
 use Rattle.std.proofs.lemmas.Option.{none-some, same_Some, slice_get_within}
@@ -56,8 +56,7 @@ pub point-of : (f : Function) (flow : Flow) (home : Home) (address : ℕ → ℕ
 point-of f flow home address p among =
     let F : ℕ → MapPoint = λ n. point_at flow home address n in
     let r = from-blocks F flow.blocks p among in
-    let same : r.1 ≡ p.number = ap (λ (x : MapPoint). x.number) r.3 in
-    (
+    let same : r.1 ≡ p.number = ap (λ (x : MapPoint). x.number) r.3 in (
       subst (λ (n : ℕ). IsPlaced flow n) same (r.0, r.2),
       subst (λ (n : ℕ). point_at flow home address n ≡ p) same r.3,
     )

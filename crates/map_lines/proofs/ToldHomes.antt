@@ -14,7 +14,7 @@ use Rattle.lower_lines.specs.Lowering.{HasShape, MarksStatements, first_statemen
 use Rattle.lower_lines.specs.Shown.{local_widths}
 use Rattle.ia32_rows.specs.Paths.{IsAt}
 use Rattle.ia32_rows.specs.Placements.{Code, Placement, placement_of, point_address}
-use Rattle.map_text.specs.Maps.{Map, MapFunction, MapPoint, points_of}
+use Rattle.map_text.specs.Maps.{Map, MapFunction, MapPoint}
 use Rattle.map_text.specs.Marks.{MarkAt, mark_at, marks_of}
 use Rattle.map_lines.specs.Belongs.{arrays_at}
 use Rattle.map_lines.specs.MapLaws.{HasMapOf, HomesMapShowsVisits}
