@@ -20,16 +20,16 @@ all-among P x [] all among = absurd among
 all-among P x (y ∷ ys) all (inl e) = subst P e (All-head P y ys all)
 all-among P x (y ∷ ys) all (inr among) = all-among P x ys (All-tail P y ys all) among
 
-in-front : {X : Type 0} (x : X) (xs ys : List X) → IsAmong x xs → IsAmong x (xs ++ ys)
+pub in-front : {X : Type 0} (x : X) (xs ys : List X) → IsAmong x xs → IsAmong x (xs ++ ys)
 in-front x [] ys among = absurd among
 in-front x (y ∷ xs) ys (inl e) = inl e
 in-front x (y ∷ xs) ys (inr among) = inr (in-front x xs ys among)
 
-in-back : {X : Type 0} (x : X) (xs ys : List X) → IsAmong x ys → IsAmong x (xs ++ ys)
+pub in-back : {X : Type 0} (x : X) (xs ys : List X) → IsAmong x ys → IsAmong x (xs ++ ys)
 in-back x [] ys among = among
 in-back x (y ∷ xs) ys among = inr (in-back x xs ys among)
 
-either-part : {X : Type 0} (x : X) (xs ys : List X) → IsAmong x (xs ++ ys) → IsAmong x xs ⊎ IsAmong x ys
+pub either-part : {X : Type 0} (x : X) (xs ys : List X) → IsAmong x (xs ++ ys) → IsAmong x xs ⊎ IsAmong x ys
 either-part x [] ys among = inr among
 either-part x (y ∷ xs) ys (inl e) = inl (inl e)
 either-part x (y ∷ xs) ys (inr among) = elim (either-part x xs ys among) [ inl a ↦ inl (inr a) | inr b ↦ inr b ]
@@ -39,7 +39,7 @@ among-map f x [] among = absurd among
 among-map f x (y ∷ xs) (inl e) = inl (ap f e)
 among-map f x (y ∷ xs) (inr among) = inr (among-map f x xs among)
 
-of-map : {X Y : Type 0} (f : X → Y) (y : Y) (xs : List X) → IsAmong y (map f xs)
+pub of-map : {X Y : Type 0} (f : X → Y) (y : Y) (xs : List X) → IsAmong y (map f xs)
     → (x : X) × IsAmong x xs × (f x ≡ y)
 of-map f y [] among = absurd among
 of-map f y (x ∷ xs) (inl e) = (x, inl refl, e)

@@ -20,7 +20,7 @@ use Rattle.flow_graph.proofs.Lists.{zip-first}
 use Rattle.lower_lines.specs.Lowering.{array_of}
 use Rattle.ia32_insn.proofs.Objects.{length-object_addresses}
 use Rattle.ia32_rows.specs.Placements.{Code, objects_of as image_objects, placement_of}
-use Rattle.ia32_rows.specs.Shows.{IsFrameArrayAt, Shows}
+use Rattle.ia32_rows.specs.Shows.{IsArrayAt, IsFrameArrayAt, Shows}
 use Rattle.ia32_laws.specs.Supports.{IsSupported, size_of}
 use Rattle.ia32_laws.specs.KeepsLaws.{data_end}
 use Rattle.ia32_laws.proofs.Objects.{object-in, objects-apart}
@@ -30,8 +30,9 @@ use Rattle.map_text.specs.Maps.{Map, MapArray, MapObject}
 use Rattle.map_text.specs.Marks.{Frame, array_in, array_named, arrays_below, arrays_of, in_frame, named_in_frames}
 use Rattle.map_text.specs.Marks.{objects_of, place_of, static_or}
 use Rattle.map_lines.specs.Belongs.{arrays_at, objects_at}
-use Rattle.map_lines.specs.VisitsLaws.{ArraysFound, HasMap, frames_at}
+use Rattle.map_lines.specs.VisitsLaws.{frames_at}
 use Rattle.map_lines.proofs.Found.{has-function, numbered}
+use Rattle.map_lines.proofs.Tells.{Tells}
 
 -- ---- places in lists
 
@@ -119,7 +120,7 @@ belows-are (o ∷ os) (x ∷ belows) same =
     ap (λ (xs : List ℕ). x ∷ xs) (belows-are os belows (omega (arith, same)))
 
 -- the objects of a map are at the addresses of the code's
-map-objects : (program : Program) (code : Code) (m : Map) → HasMap program code m
+map-objects : (program : Program) (code : Code) (m : Map) → Tells program code m
     → objects_of m ≡ object_addresses (data_start code.text + 4) (image_objects code.program)
 map-objects program code m h =
     let symbols = h.is_selected.supported.is_code.text.objects_are in
@@ -129,11 +130,11 @@ map-objects program code m h =
     ∙ sym (length-map code.program.objects
     (λ (o : graph.Object). let p : Object = record { width = o.width; elements = o.elements } in p))
     ∙ sym (length-object_addresses (data_start code.text + 4) image) ∙ ap length (sym symbols) in
-    ap (map (λ (o : MapObject). o.address)) h.belongs.objects
+    ap (map (λ (o : MapObject). o.address)) h.own_objects
     ∙ objects-are program.objects code.symbols.objects many ∙ symbols
 
 -- the arrays of a function of a map are where the code has them
-map-arrays : (program : Program) (code : Code) (m : Map) (k : ℕ) → HasMap program code m
+map-arrays : (program : Program) (code : Code) (m : Map) (k : ℕ) → Tells program code m
     → k < length code.program.functions → arrays_of m (Some k) ≡ (placement_of code k).arrays
 map-arrays program code m k h below =
     let x = has-function program code m k h below in
@@ -192,7 +193,7 @@ static-named : (m : Map) (frames : List Frame) (word k : ℕ) → 0 < word → p
 static-named m frames zero k some at = absurd (omega (arith, some))
 static-named m frames (suc n) k some at = ap (static_or (named_in_frames m (suc n) frames)) at
 
-static-found : (program : Program) (code : Code) (m : Map) (frames : List Frame) (k word : ℕ) → HasMap program code m
+static-found : (program : Program) (code : Code) (m : Map) (frames : List Frame) (k word : ℕ) → Tells program code m
     → slice_get code.symbols.objects k ≡ Some word → array_named m frames word ≡ Static k
 static-found program code m frames k word h at =
     let start : ℕ = data_start code.text in
@@ -285,7 +286,7 @@ below-differs code f j k other below supported lt less at there =
     apart m n (inr h) = omega (arith, h)
 
 frame-found : (program : Program) (code : Code) (m : Map) (input : List ℕ) (g : graph.State) (s : machine.State)
-    (k depth word : ℕ) → HasMap program code m → IsState code.program g → (shown : Shows code input g s)
+    (k depth word : ℕ) → Tells program code m → IsState code.program g → (shown : Shows code input g s)
     → IsFrameArrayAt code (active_of g) shown.frames k depth word
     → array_named m (frames_at (active_of g) shown.frames) word ≡ InFrame k depth
 unfolding array-of
@@ -339,11 +340,14 @@ frame-found program code m input g s k depth word has state shown h =
     no-nearer : (e w o b f l z : ℕ) → e + 8 + l + z ≤ f → w + b ≡ f → b + 4 ≤ z → w + o ≢ e
     no-nearer e w o b f l z h i j = omega arith
 
-pub arrays-found : ArraysFound
-arrays-found program code m input g s Null word h state shown at =
+pub arrays-told : (program : Program) (code : Code) (m : Map) (input : List ℕ) (g : graph.State) (s : machine.State)
+    (array : ArrayName) (word : ℕ) → Tells program code m → IsState code.program g → (shown : Shows code input g s)
+    → IsArrayAt code (active_of g) shown.frames array word
+    → array_named m (frames_at (active_of g) shown.frames) word ≡ array
+arrays-told program code m input g s Null word h state shown at =
     ap (array_named m (frames_at (active_of g) shown.frames)) at
-arrays-found program code m input g s Unknown word h state shown at = absurd at
-arrays-found program code m input g s (Static k) word h state shown at =
+arrays-told program code m input g s Unknown word h state shown at = absurd at
+arrays-told program code m input g s (Static k) word h state shown at =
     static-found program code m (frames_at (active_of g) shown.frames) k word h at.1
-arrays-found program code m input g s (InFrame k depth) word h state shown at =
+arrays-told program code m input g s (InFrame k depth) word h state shown at =
     frame-found program code m input g s k depth word h state shown at

@@ -6,17 +6,18 @@ use Rattle.std.proofs.lemmas.Bool.Decides.{nat_tests}
 use Rattle.std.proofs.lemmas.Option.{get_or_from_slice_get, slice_get_within}
 use Rattle.pcc_base.proofs.Lists.{element-at}
 use Rattle.c_tree.specs.Program.{Function, Program}
-use Rattle.flow_graph.specs.Graphs.{Flow, IsPlaced, empty_flow}
-use Rattle.flow_graph.specs.States.{flow_at}
+use Rattle.flow_graph.specs.Graphs.{Flow, empty_flow}
+use Rattle.flow_graph.specs.States.{Activation, Waiting, flow_at}
+use Rattle.flow_graph.specs.WellFormed.{IsWaiting}
 use Rattle.lower_lines.specs.Lowering.{first_statement}
 use Rattle.ia32_rows.specs.Placements.{Code, placement_of, point_address}
+use Rattle.ia32_rows.specs.Shows.{ReturnsTo}
 use Rattle.ia32_laws.proofs.Apart.{points-apart}
-use Rattle.map_text.specs.Maps.{Map, MapFunction, MapPoint, points_of}
-use Rattle.map_text.specs.Marks.{function_below, points_in}
-use Rattle.map_lines.specs.Belongs.{IsFunctionOf, IsPointOf}
-use Rattle.map_lines.specs.VisitsLaws.{FunctionsFound, HasMap}
-use Rattle.map_lines.proofs.Among.{IsAmong, IsPointAt, all-among, in-map, point-from, point-to}
+use Rattle.map_text.specs.Maps.{Map, MapFunction, MapPoint}
+use Rattle.map_text.specs.Marks.{caller_of, function_below, points_in}
+use Rattle.map_lines.proofs.Among.{IsAmong, IsPointAt, point-from, point-to}
 use Rattle.map_lines.proofs.Between.{none-between}
+use Rattle.map_lines.proofs.Tells.{Tells, TellsFunction, TellsPoint}
 
 -- ---- the greatest address below one
 
@@ -108,14 +109,14 @@ pub record IsNumbered (program : Program) (code : Code) (m : Map) (k : ℕ) (x :
   pub below : k < length code.program.functions
   pub function : Function
   pub declared : slice_get program.functions k ≡ Some function
-  pub is : IsFunctionOf (first_statement program.functions k) function (flow_at code.program k)
+  pub is : TellsFunction (first_statement program.functions k) function (flow_at code.program k)
       (placement_of code k) (point_address code k) x
 
-pub numbered : (program : Program) (code : Code) (m : Map) (k : ℕ) (x : MapFunction) → HasMap program code m
+pub numbered : (program : Program) (code : Code) (m : Map) (k : ℕ) (x : MapFunction) → Tells program code m
     → slice_get m.functions k ≡ Some x → IsNumbered program code m k x
 numbered program code m k x h has =
     let within = slice_get_within m.functions k x has in
-    let many = h.belongs.as_many in
+    let many = h.as_many in
     let shapes = h.shapes.as_many in
     let f = element-at program.functions k (omega (arith, within, many)) in
     let below : k < length code.program.functions = omega (arith, within, many, shapes) in
@@ -126,56 +127,49 @@ numbered program code m k x h has =
       below = below;
       function = f.0;
       declared = f.1;
-      is = subst (λ (fl : Flow). IsFunctionOf (first_statement program.functions k) f.0 fl (placement_of code k)
-          (point_address code k) x) same (h.belongs.functions k f.0 flow.0 x f.1 flow.1 has);
+      is = subst (λ (fl : Flow). TellsFunction (first_statement program.functions k) f.0 fl (placement_of code k)
+          (point_address code k) x) same (h.functions k f.0 flow.0 x f.1 flow.1 has);
     }
 
 -- each function of the graphs has one
-pub has-function : (program : Program) (code : Code) (m : Map) (k : ℕ) → HasMap program code m
+pub has-function : (program : Program) (code : Code) (m : Map) (k : ℕ) → Tells program code m
     → k < length code.program.functions → (x : MapFunction) × (slice_get m.functions k ≡ Some x)
 has-function program code m k h below =
-    let many = h.belongs.as_many in
+    let many = h.as_many in
     let shapes = h.shapes.as_many in
     element-at m.functions k (omega (arith, below, many, shapes))
 
 -- ---- points
 
 -- a point that a map lists is one of the graph, and at its address
-pub record IsListedAt (code : Code) (k : ℕ) (p : MapPoint) : Type 0 where
-  pub below : k < length code.program.functions
-  pub placed : IsPlaced (flow_at code.program k) p.number
-  pub same_op : slice_get (flow_at code.program k).ops p.number ≡ Some p.op
-  pub address : p.address ≡ point_address code k p.number
+pub record IsListedAt (program : Program) (code : Code) (m : Map) (k : ℕ) (p : MapPoint) : Type 0 where
+  pub function : MapFunction
+  pub has : slice_get m.functions k ≡ Some function
+  pub own : IsNumbered program code m k function
+  pub is : TellsPoint (first_statement program.functions k) own.function (flow_at code.program k)
+      (placement_of code k) (point_address code k) p
 
-pub point-listed : (program : Program) (code : Code) (m : Map) (k : ℕ) (p : MapPoint) → HasMap program code m
-    → IsPointAt 0 m.functions k p → IsListedAt code k p
+pub point-listed : (program : Program) (code : Code) (m : Map) (k : ℕ) (p : MapPoint) → Tells program code m
+    → IsPointAt 0 m.functions k p → IsListedAt program code m k p
 point-listed program code m k p h at =
     let same : at.place ≡ k = let numbered = at.numbered in omega (arith, numbered) in
-    let n = numbered program code m k at.function h
-    (subst (λ (i : ℕ). slice_get m.functions i ≡ Some at.function) same at.has) in
-    either n (all-among (IsPointOf (first_statement program.functions k) n.function (flow_at code.program k)
-    (placement_of code k) (point_address code k)) p (points_of at.function) n.is.points at.among)
-  where
-    either : (n : IsNumbered program code m k at.function)
-        → IsPointOf (first_statement program.functions k) n.function (flow_at code.program k) (placement_of code k)
-        (point_address code k) p → IsListedAt code k p
-    either n (inl mark) =
-        record { below = n.below; placed = mark.placed; same_op = mark.same_op; address = mark.address }
-    either n (inr call) =
-        record { below = n.below; placed = call.placed; same_op = call.same_op; address = call.address }
+    let has : slice_get m.functions k ≡ Some at.function =
+    subst (λ (i : ℕ). slice_get m.functions i ≡ Some at.function) same at.has in
+    let n = numbered program code m k at.function h has in
+    record { function = at.function; has = has; own = n; is = n.is.points p at.among }
 
--- ---- the law
+-- ---- the function of a return address
 
-pub functions-found : FunctionsFound
-functions-found program code m w younger address h below waits returns =
+pub functions-told : (program : Program) (code : Code) (m : Map) (w : Waiting) (younger : Activation) (address : ℕ)
+    → Tells program code m → w.activation.function < length code.program.functions → IsWaiting code.program w younger
+    → ReturnsTo code w younger.function address → caller_of m (Some address) ≡ Some w.activation.function
+functions-told program code m w younger address h below waits returns =
     let f : ℕ = w.activation.function in
     let x = has-function program code m f h below in
     let n = numbered program code m f x.0 h x.1 in
-    let within = n.is.all_calls w.point waits.result younger.function waits.words (w.block, waits.placed) waits.calls in
-    let p = in-map (λ (q : MapPoint). q.number) w.point (points_of x.0) within in
-    let listed = point-listed program code m f p.0 h
-    (record { place = f; numbered = omega arith; function = x.0; has = x.1; among = p.1 }) in
-    let at : p.0.address ≡ point_address code f w.point = listed.address ∙ ap (point_address code f) p.2 in
+    let p = n.is.all_calls w.point waits.result younger.function waits.words (w.block, waits.placed) waits.calls in
+    let at : p.0.address ≡ point_address code f w.point =
+    (n.is.points p.0 p.1).address ∙ ap (point_address code f) p.2 in
     let own = none-between code w younger address f w.block w.point h.is_selected below waits returns below
     waits.placed in
     let among : IsAmong (p.0.address, f) (points_in m) =
@@ -190,14 +184,14 @@ functions-found program code m w younger address h below waits returns =
     near a at point among lt =
         let r = point-from 0 m.functions point among in
         let listed = point-listed program code m point.1 r.0 h r.1 in
-        let where_is : point.0 ≡ point_address code point.1 r.0.number = sym r.2 ∙ listed.address in
-        let between = none-between code w younger address point.1 listed.placed.0 r.0.number h.is_selected below waits
-        returns listed.below listed.placed.1 in (
+        let where_is : point.0 ≡ point_address code point.1 r.0.number = sym r.2 ∙ listed.is.address in
+        let between = none-between code w younger address point.1 listed.is.placed.0 r.0.number h.is_selected below
+        waits returns listed.own.below listed.is.placed.1 in (
           elim between.1 [
             | inl low ↦ omega (arith, low, at, where_is)
             | inr high ↦ absurd (omega (arith, high, lt, where_is))
           ],
           λ same.
-              (points-apart code point.1 w.activation.function listed.placed.0 w.block r.0.number w.point h.is_selected
-              listed.below below listed.placed.1 waits.placed (sym where_is ∙ same ∙ at)).0,
+              (points-apart code point.1 w.activation.function listed.is.placed.0 w.block r.0.number w.point
+              h.is_selected listed.own.below below listed.is.placed.1 waits.placed (sym where_is ∙ same ∙ at)).0,
         )

@@ -9,11 +9,13 @@ pub mod Standings
 pub mod OwnedVariables
 pub mod Owners
 pub mod Functions
+pub mod OnceMarked
 pub mod Marking
 pub mod Belonging
 pub mod Rules
 pub mod Listing
 pub mod Among
+pub mod Tells
 pub mod Between
 pub mod Found
 pub mod Memory
@@ -36,3 +38,7 @@ pub mod HomesPlaces
 pub mod HomesBoards
 pub mod HomesObjects
 pub mod HomesRules
+pub mod ToldSlots
+pub mod LivePlaces
+pub mod HomePoints
+pub mod ToldHomes

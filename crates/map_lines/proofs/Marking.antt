@@ -18,6 +18,7 @@ use Rattle.map_text.specs.Marks.{MarkAt, mark_at, marks_from}
 use Rattle.map_lines.specs.ProgramMap.{Homes, all_points, function_over, functions_over, op_points, points_over}
 use Rattle.map_lines.specs.ProgramMap.{standings_from, variables_before}
 use Rattle.map_lines.proofs.Blocks.{distinct-both, distinct-parts, in-back, in-either, in-front}
+use Rattle.map_lines.proofs.OnceMarked.{mark-number, marked-in, one-op}
 
 -- ---- of a function
 
@@ -111,9 +112,6 @@ each-mark P k (f ∷ fs) (flow ∷ flows) (h ∷ homes) addresses each =
 
 abbrev statements : List MarkAt → List ℕ
 statements marks = map (λ (x : MarkAt). x.statement) marks
-
-mark-number : (m n : ℕ) → Some (op.Mark m) ≡ Some (op.Mark n) → m ≡ n
-mark-number m n e = cc
 
 statement-here : (k : ℕ) (f : Function) (slots : List ℕ) (address : ℕ → ℕ) (p n : ℕ) (o : Option Op)
     (rest : List MarkAt) → o ≡ Some (op.Mark n) → IsIn n (statements (op_marks k f slots address p o ++ rest))
@@ -214,27 +212,6 @@ distinct-points k f slots address ops (p ∷ points) once one =
     every-in (λ r. r ≢ p) q points once.0 there both))
     (distinct-points k f slots address ops points once.1 one)
 
-marked-in : (ops : List Op) (p n : ℕ) → slice_get ops p ≡ Some (op.Mark n) → IsIn n (marks_in ops)
-marked-in [] p n at = absurd (none-some (op.Mark n) at)
-marked-in (op.Mark m ∷ ops) zero n at = inl (mark-number m n at)
-marked-in (op.Mark m ∷ ops) (suc p) n at = inr (marked-in ops p n at)
-marked-in (i ∷ ops) zero n at = absurd (cc)
-marked-in (i ∷ ops) (suc p) n at = marked-in ops p n at
-
--- no two ops mark one statement
-marks-one : (ops : List Op) (p q n : ℕ) → IsDistinct (marks_in ops) → slice_get ops p ≡ Some (op.Mark n)
-    → slice_get ops q ≡ Some (op.Mark n) → p ≡ q
-marks-one [] p q n once at other = absurd (none-some (op.Mark n) at)
-marks-one (op.Mark m ∷ ops) zero zero n once at other = refl
-marks-one (op.Mark m ∷ ops) zero (suc q) n once at other =
-    absurd (every-in (λ k. k ≢ m) n (marks_in ops) once.0 (marked-in ops q n other) (sym (mark-number m n at)))
-marks-one (op.Mark m ∷ ops) (suc p) zero n once at other =
-    absurd (every-in (λ k. k ≢ m) n (marks_in ops) once.0 (marked-in ops p n at) (sym (mark-number m n other)))
-marks-one (op.Mark m ∷ ops) (suc p) (suc q) n once at other = ap suc (marks-one ops p q n once.1 at other)
-marks-one (i ∷ ops) zero q n once at other = absurd (cc)
-marks-one (i ∷ ops) (suc p) zero n once at other = absurd (cc)
-marks-one (i ∷ ops) (suc p) (suc q) n once at other = ap suc (marks-one ops p q n once at other)
-
 from-over : (k : ℕ) (f : Function) (flow : Flow) (h : Homes) (address : ℕ → ℕ) (n : ℕ)
     → IsIn n (statements (marks_over k f flow h address)) → IsIn n (marks_in flow.ops)
 from-over k f flow h address n within =
@@ -272,7 +249,7 @@ marks-distinct k (f ∷ fs) (flow ∷ flows) (h ∷ homes) addresses placed once
     subst (λ (ns : List ℕ). IsDistinct ns) (sym (parted k f fs flow flows h homes addresses))
     (distinct-both mine others
     (distinct-points k f h.slots (addresses k) flow.ops (all_points flow) placed.0
-    (λ p q n at other. marks-one flow.ops p q n parts.front at other))
+    (λ p q n at other. one-op flow.ops p q n parts.front at other))
     (marks-distinct (suc k) fs flows homes addresses placed.1 parts.back)
     (λ p q here there. parts.apart p q (from-over k f flow h (addresses k) p here)
     (from-functions (suc k) fs flows homes addresses q there)))

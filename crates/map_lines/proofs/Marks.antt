@@ -1,6 +1,5 @@
 -- The marks of a map, by their points, and what is visited where.
-use Rattle.std.specs.List.{AllByRecursion}
-use Rattle.std.proofs.Common.{◌≡◌, ◌≢◌, ℕ, zero, suc, ◌+◌, ◌<◌, Bool, List, [], ◌∷◌, length, map, Some}
+use Rattle.std.proofs.Common.{◌≡◌, ℕ, zero, suc, ◌+◌, ◌<◌, Bool, List, [], ◌∷◌, length, Some}
 use Rattle.std.proofs.Common.{inl, inr, refl, sym, ap, subst, ◌∙◌, arith}
 use Rattle.std.specs.Prelude.{filter_map, if◌then◌else◌, option_map, slice_get, slice_index_or}
 use Rattle.std.proofs.lemmas.Bool.Decides.{eqb_tells}
@@ -10,21 +9,20 @@ use Rattle.c_tree.specs.Program.{Program}
 use Rattle.ia32_insn.specs.State as machine
 use Rattle.flow_graph.specs.declared.op.Op.{Op}
 use Rattle.flow_graph.specs.declared.op.Op.TheVariants as op
-use Rattle.flow_graph.specs.Graphs.{Flow, IsDistinct, Stands, empty_flow}
+use Rattle.flow_graph.specs.Graphs.{Flow, Stands, empty_flow}
 use Rattle.flow_graph.specs.States as graph
 use Rattle.flow_graph.specs.States.{flow_at, op_at, op_of}
 use Rattle.lower_lines.specs.Lowering.{first_statement}
 use Rattle.ia32_rows.specs.Placements.{Code, placement_of, point_address}
 use Rattle.ia32_rows.specs.Shows.{Shows}
 use Rattle.ia32_laws.proofs.Apart.{points-apart}
-use Rattle.map_text.specs.Maps.{Map, MapFunction, MapPoint, points_of}
+use Rattle.map_text.specs.Maps.{Map, MapFunction, MapPoint}
 use Rattle.flow_graph.specs.Kinds.{marked}
 use Rattle.map_text.specs.Marks.{MarkAt, listed_by, mark_at, marks_of, part_of, variables_in, visit_at}
 use Rattle.map_text.specs.Marks.{visits_by}
-use Rattle.map_lines.specs.Belongs.{IsMarkOf, IsPointOf}
-use Rattle.map_lines.specs.VisitsLaws.{HasMap}
-use Rattle.map_lines.proofs.Among.{IsAmong, IsPointAt, all-among, in-map, mark-from, mark-to}
+use Rattle.map_lines.proofs.Among.{IsAmong, mark-from, mark-to}
 use Rattle.map_lines.proofs.Found.{IsListedAt, IsNumbered, has-function, numbered, point-listed}
+use Rattle.map_lines.proofs.Tells.{Tells, TellsMark, TellsPoint}
 
 -- ---- lists of marks
 
@@ -81,34 +79,16 @@ lists-parts m mark (first ∷ marks) among only =
     behind (inl same) away = absurd (away (ap (λ (x : MarkAt). x.statement) same))
     behind (inr more) away = more
 
--- ---- each statement is marked once
-
-not-among : (n : ℕ) (mark : MarkAt) (marks : List MarkAt)
-    → AllByRecursion (λ q. q ≢ n) (map (λ (x : MarkAt). x.statement) marks) → IsAmong mark marks → mark.statement ≢ n
-not-among n mark [] all among = absurd among
-not-among n mark (x ∷ marks) all (inl same) = λ e. all.0 (ap (λ (y : MarkAt). y.statement) same ∙ e)
-not-among n mark (x ∷ marks) all (inr more) = not-among n mark marks all.1 more
-
-pub one-mark : (a b : MarkAt) (marks : List MarkAt) → IsDistinct (map (λ (x : MarkAt). x.statement) marks)
-    → IsAmong a marks → IsAmong b marks → a.statement ≡ b.statement → a ≡ b
-one-mark a b [] once one two e = absurd one
-one-mark a b (x ∷ marks) once (inl same) (inl other) e = sym same ∙ other
-one-mark a b (x ∷ marks) once (inl same) (inr more) e =
-    absurd (not-among x.statement b marks once.0 more (sym e ∙ ap (λ (y : MarkAt). y.statement) (sym same)))
-one-mark a b (x ∷ marks) once (inr more) (inl same) e =
-    absurd (not-among x.statement a marks once.0 more (e ∙ ap (λ (y : MarkAt). y.statement) (sym same)))
-one-mark a b (x ∷ marks) once (inr one) (inr two) e = one-mark a b marks once.1 one two e
-
 -- ---- the point of a mark
 
 -- what a mark says of its point
-record SaysOf (k : ℕ) (p : MapPoint) (mark : MarkAt) : Type 0 where
-  function_is : mark.function ≡ k
-  statement_is : p.op ≡ op.Mark mark.statement
-  address_is : mark.address ≡ p.address
-  standings_are : mark.standings ≡ p.before
+pub record SaysOf (k : ℕ) (p : MapPoint) (mark : MarkAt) : Type 0 where
+  pub function_is : mark.function ≡ k
+  pub statement_is : p.op ≡ op.Mark mark.statement
+  pub address_is : mark.address ≡ p.address
+  pub standings_are : mark.standings ≡ p.before
 
-says-of : (k : ℕ) (p : MapPoint) (mark : MarkAt) → mark_at k p ≡ Some mark → SaysOf k p mark
+pub says-of : (k : ℕ) (p : MapPoint) (mark : MarkAt) → mark_at k p ≡ Some mark → SaysOf k p mark
 says-of k p mark is = by p.op refl is
   where
     made : ℕ → MarkAt
@@ -134,9 +114,10 @@ pub record IsMarkIn (program : Program) (code : Code) (m : Map) (k : ℕ) (mark 
   pub has : slice_get m.functions k ≡ Some listed_function
   pub own : IsNumbered program code m k listed_function
   pub point : MapPoint
-  pub is : IsMarkOf (first_statement program.functions k) own.function (flow_at code.program k) (placement_of code k)
+  pub is : TellsPoint (first_statement program.functions k) own.function (flow_at code.program k) (placement_of code k)
       (point_address code k) point
-  pub statement_is : is.statement ≡ mark.statement
+  pub marks : point.op ≡ op.Mark mark.statement
+  pub says : TellsMark (first_statement program.functions k) own.function (placement_of code k) point mark.statement
   pub address_is : mark.address ≡ point_address code k point.number
   pub standings_are : mark.standings ≡ point.before
 
@@ -144,43 +125,27 @@ pub record IsMarkIn (program : Program) (code : Code) (m : Map) (k : ℕ) (mark 
 pub marks-one : (o : Op) (n l : ℕ) → o ≡ op.Mark n → o ≡ op.Mark l → n ≡ l
 marks-one o n l e f = same_Some n l (ap marked (sym e ∙ f))
 
-pub mark-in : (program : Program) (code : Code) (m : Map) (mark : MarkAt) → HasMap program code m
+pub mark-in : (program : Program) (code : Code) (m : Map) (mark : MarkAt) → Tells program code m
     → IsAmong mark (marks_of m) → (k : ℕ) × IsMarkIn program code m k mark
 mark-in program code m mark h among =
     let r = mark-from 0 m.functions mark among in
-    let k : ℕ = r.0 in
-    let p : MapPoint = r.1 in
-    let at : IsPointAt 0 m.functions k p = r.2 in
-    let same : at.place ≡ k = let numbered_as = at.numbered in omega (arith, numbered_as) in
-    let has : slice_get m.functions k ≡ Some at.function =
-    subst (λ (i : ℕ). slice_get m.functions i ≡ Some at.function) same at.has in
-    (k, of-point k p at.function has at.among (says-of k p mark r.3))
+    (r.0, of-point r.0 r.1 (point-listed program code m r.0 r.1 h r.2) (says-of r.0 r.1 mark r.3))
   where
-    of-point : (k : ℕ) (p : MapPoint) (x : MapFunction) → slice_get m.functions k ≡ Some x → IsAmong p (points_of x)
-        → SaysOf k p mark → IsMarkIn program code m k mark
-    of-point k p x has among says =
-        let n = numbered program code m k x h has in
-        either n (all-among (IsPointOf (first_statement program.functions k) n.function (flow_at code.program k)
-        (placement_of code k) (point_address code k)) p (points_of x) n.is.points among)
-      where
-        either : (n : IsNumbered program code m k x)
-            → IsPointOf (first_statement program.functions k) n.function (flow_at code.program k) (placement_of code k)
-            (point_address code k) p → IsMarkIn program code m k mark
-        either n (inl is) =
-            record {
-              function_is = says.function_is;
-              listed_function = x;
-              has = has;
-              own = n;
-              point = p;
-              is = is;
-              statement_is = marks-one p.op is.statement mark.statement is.marks says.statement_is;
-              address_is = says.address_is ∙ is.address;
-              standings_are = says.standings_are;
-            }
-        either n (inr call) =
-            absurd (let both : op.Call call.result call.callee call.arguments ≡ op.Mark mark.statement =
-            sym call.calls ∙ says.statement_is in cc)
+    of-point : (k : ℕ) (p : MapPoint) → IsListedAt program code m k p → SaysOf k p mark
+        → IsMarkIn program code m k mark
+    of-point k p listed says =
+        record {
+          function_is = says.function_is;
+          listed_function = listed.function;
+          has = listed.has;
+          own = listed.own;
+          point = p;
+          is = listed.is;
+          marks = says.statement_is;
+          says = listed.is.marks mark.statement says.statement_is;
+          address_is = says.address_is ∙ listed.is.address;
+          standings_are = says.standings_are;
+        }
 
 -- ---- where a state is
 
@@ -193,7 +158,7 @@ has-op (flow ∷ functions) (suc f) point o e = let less = has-op functions f po
 
 -- a mark at EIP is that of the state's point
 pub at-point : (program : Program) (code : Code) (m : Map) (mark : MarkAt) (input : List ℕ) (g : graph.State)
-    (s : machine.State) (k : ℕ) (o : Op) → HasMap program code m → Shows code input g s
+    (s : machine.State) (k : ℕ) (o : Op) → Tells program code m → Shows code input g s
     → op_at code.program g ≡ Some o → (r : IsMarkIn program code m k mark) → mark.address ≡ s.eip
     → (k ≡ g.current.function) × (r.point.number ≡ g.point) × (o ≡ op.Mark mark.statement)
 at-point program code m mark input g s k o h shown has r at =
@@ -201,25 +166,24 @@ at-point program code m mark input g s k o h shown has r at =
     let below = has-op code.program.functions f g.point o has in
     let same = points-apart code k f r.is.placed.0 g.block r.point.number g.point h.is_selected r.own.below below
     r.is.placed.1 shown.placed (sym r.address_is ∙ at ∙ shown.eip) in
-    let there : slice_get (flow_at code.program f).ops g.point ≡ Some r.point.op =
+    let mine : slice_get (flow_at code.program f).ops g.point ≡ Some r.point.op =
     subst (λ (n : ℕ). slice_get (flow_at code.program n).ops g.point ≡ Some r.point.op) same.0
     (subst (λ (q : ℕ). slice_get (flow_at code.program k).ops q ≡ Some r.point.op) same.1 r.is.same_op) in
-    (same.0, same.1, same_Some o r.point.op (sym has ∙ there) ∙ r.is.marks ∙ ap op.Mark r.statement_is)
+    (same.0, same.1, same_Some o r.point.op (sym has ∙ mine) ∙ r.marks)
 
 -- each mark of the graph has one in the map
-pub marked-at : (program : Program) (code : Code) (m : Map) (f block point statement : ℕ) → HasMap program code m
+pub marked-at : (program : Program) (code : Code) (m : Map) (f block point statement : ℕ) → Tells program code m
     → f < length code.program.functions → Stands (flow_at code.program f) point block
     → op_of code.program f point ≡ Some (op.Mark statement)
     → (mark : MarkAt) × IsAmong mark (marks_of m) × (mark.address ≡ point_address code f point)
 marked-at program code m f block point statement h below stands has =
     let x = has-function program code m f h below in
     let n = numbered program code m f x.0 h x.1 in
-    let p = in-map (λ (q : MapPoint). q.number) point (points_of x.0)
-    (n.is.all_marks point statement (block, stands) has) in
+    let p = n.is.all_marks point statement (block, stands) has in
     let k : ℕ = 0 + f in
     let mark : MarkAt =
     record { address = p.0.address; statement = statement; function = k; standings = p.0.before } in
-    let listed = listed-at p.0 x.0 x.1 p.1 in
+    let listed = n.is.points p.0 p.1 in
     let mine : p.0.op ≡ op.Mark statement =
     same_Some p.0.op (op.Mark statement)
     (sym listed.same_op ∙ ap (λ (q : ℕ). slice_get (flow_at code.program f).ops q) p.2 ∙ has) in
@@ -228,9 +192,3 @@ marked-at program code m f block point statement h below stands has =
     let y : MarkAt = record { address = p.0.address; statement = st; function = k; standings = p.0.before } in y)
     (marked o)) mine in
     (mark, mark-to 0 f m.functions x.0 p.0 mark x.1 p.1 is, listed.address ∙ ap (point_address code f) p.2)
-  where
-    listed-at : (p : MapPoint) (x : MapFunction) → slice_get m.functions f ≡ Some x → IsAmong p (points_of x)
-        → IsListedAt code f p
-    listed-at p x has among =
-        point-listed program code m f p h
-        (record { place = f; numbered = omega arith; function = x; has = has; among = among })

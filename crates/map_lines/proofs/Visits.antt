@@ -23,6 +23,7 @@ use Rattle.flow_graph.specs.WellFormed.{IsState}
 use Rattle.flow_graph.proofs.Keeping.{states_are_states}
 use Rattle.flow_graph.proofs.Lists.{All-at}
 use Rattle.lower_lines.specs.Shown.{locals_at, variable_part, variables_shown}
+use Rattle.ia32_rows.specs.Follows.{ShowsVisits}
 use Rattle.ia32_rows.specs.Paths.{IsAt, IsClear}
 use Rattle.ia32_rows.specs.Placements.{Code, objects_of, placement_of}
 use Rattle.ia32_rows.specs.Shows.{Shows, StandsIn}
@@ -32,13 +33,14 @@ use Rattle.map_text.specs.Maps.{Map, MapVariable, Standing, Temporary}
 use Rattle.map_text.specs.Marks.{Frame, MarkAt, frames_of, listed, marks_of, part_of, value_named, value_of}
 use Rattle.map_text.specs.Marks.{values_of, variables_in, variables_of, visits_of}
 use Rattle.map_lines.proofs.Owners.{owner-locals}
-use Rattle.map_lines.specs.VisitsLaws.{HasMap, MapShowsVisits, frames_at}
+use Rattle.map_lines.specs.VisitsLaws.{frames_at}
 use Rattle.map_lines.proofs.Among.{IsAmong, all-among, among-map, to-filter}
-use Rattle.map_lines.proofs.Arrays.{arrays-found}
-use Rattle.map_lines.proofs.Frames.{frames-found}
+use Rattle.map_lines.proofs.Arrays.{arrays-told}
+use Rattle.map_lines.proofs.Frames.{frames-told}
 use Rattle.map_lines.proofs.Marks.{IsMarkIn, at-point, lists-parts, mark-in, marked-at, marks-one}
-use Rattle.map_lines.proofs.Marks.{not-visited, one-mark, visited}
+use Rattle.map_lines.proofs.Marks.{not-visited, visited}
 use Rattle.map_lines.proofs.Memory.{sound-readable}
+use Rattle.map_lines.proofs.Tells.{Tells}
 use Rattle.map_lines.proofs.Values.{IsReadAt, role-shown}
 use Rattle.map_lines.proofs.VisitsVariables.{IsKnownVariable, part-is, part-none}
 use Rattle.map_lines.proofs.VisitsVariables.{part-shown, role_name, role_part, variable-known}
@@ -49,10 +51,8 @@ use Rattle.map_lines.proofs.VisitsVariables.{part-shown, role_name, role_part, v
 mark-locals : (program : Program) (code : Code) (m : Map) (k : ℕ) (mark : MarkAt)
     → (r : IsMarkIn program code m k mark) → locals_at program.functions mark.statement ≡ r.own.function.locals
 mark-locals program code m k mark r =
-    let own = r.is.own in
-    let same = r.statement_is in
-    owner-locals program.functions mark.statement k r.own.function r.own.declared (omega (arith, own.0, same))
-    (omega (arith, own.1, same))
+    let own = r.says.own in
+    owner-locals program.functions mark.statement k r.own.function r.own.declared own.0 own.1
 
 -- its variables
 mark-variables : (program : Program) (code : Code) (m : Map) (k : ℕ) (mark : MarkAt)
@@ -61,7 +61,7 @@ mark-variables program code m k mark r =
     ap (variables_in m) r.function_is ∙ ap variables_of r.has
 
 -- each is one of a local, or of none
-known-in : (program : Program) (code : Code) (m : Map) (k : ℕ) (mark : MarkAt) → HasMap program code m
+known-in : (program : Program) (code : Code) (m : Map) (k : ℕ) (mark : MarkAt) → Tells program code m
     → (r : IsMarkIn program code m k mark) → (v : ℕ)
     → IsKnownVariable r.own.function.locals (variables_in m mark.function) v
 known-in program code m k mark h r v =
@@ -98,7 +98,7 @@ shows-none m frames s place (Some x) (inr e) =
 
 -- where a variable of the current function stands before a mark
 read-at : (program : Program) (code : Code) (m : Map) (mark : MarkAt) (input : List ℕ) (g : graph.State)
-    (s : machine.State) (standing : Standing) (variable : MapVariable) → HasMap program code m
+    (s : machine.State) (standing : Standing) (variable : MapVariable) → Tells program code m
     → IsState code.program g → (shown : Shows code input g s)
     → (r : IsMarkIn program code m g.current.function mark) → r.point.number ≡ g.point
     → op_at code.program g ≡ Some (op.Mark mark.statement) → IsAmong standing mark.standings
@@ -120,8 +120,7 @@ read-at program code m mark input g s standing variable h state shown r here has
     subst (λ (l : List Standing). IsAmong standing l) r.standings_are among in
     let placed : (placement_of code f).before g.point v ≡ Some standing.place =
     subst (λ (q : ℕ). (placement_of code f).before q v ≡ Some standing.place) here
-    (all-among (λ (x : Standing). (placement_of code f).before r.point.number x.variable ≡ Some x.place) standing
-    r.point.before r.is.places mine) in
+    (r.says.places standing mine) in
     let point = (supported.supports f state.active.0.function).points g.point (op.Mark mark.statement)
     (g.block, shown.placed) has in
     let for_place = point.before v standing.place placed in
@@ -155,7 +154,7 @@ AreKnownParts m mark locals g =
 
 -- a standing shows the part that it lists
 standing-shown : (program : Program) (code : Code) (m : Map) (mark : MarkAt) (input : List ℕ) (g : graph.State)
-    (s : machine.State) (standing : Standing) → HasMap program code m → IsState code.program g
+    (s : machine.State) (standing : Standing) → Tells program code m → IsState code.program g
     → (shown : Shows code input g s) → (r : IsMarkIn program code m g.current.function mark)
     → r.point.number ≡ g.point → op_at code.program g ≡ Some (op.Mark mark.statement)
     → AreKnownParts m mark r.own.function.locals g → IsAmong standing mark.standings
@@ -190,17 +189,17 @@ standing-shown program code m mark input g s standing h state shown r here has k
         ∙ ap (value_named m (frames_of m mark s) s standing.place v.variable.width) v.is_named
         ∙ ap (λ (fs : List Frame). value_named m fs s standing.place v.variable.width
         (role_name v.role v.local.name))
-        (frames-found program code m mark input g s h state shown r.function_is)
+        (frames-told program code m mark input g s h state shown r.function_is)
         ∙ role-shown v.role v.local.name m found code g shown.frames s (placement_of code g.current.function).frame
         standing.variable v.variable.width standing.place v.is_wide
         (read-at program code m mark input g s standing v.variable h state shown r here has among v.at)
-        (λ array word at. arrays-found program code m input g s array word h state shown at) is-known
+        (λ array word at. arrays-told program code m input g s array word h state shown at) is-known
         ∙ ap (λ (p : Part). Some (part_value g p)) (sym in-graph)
         ∙ sym (ap (option_map (λ p. part_value g (variable_part locals p))) lists)
 
 -- so a visit shows the values of the parts
 values-shown : (program : Program) (code : Code) (m : Map) (mark : MarkAt) (input : List ℕ) (g : graph.State)
-    (s : machine.State) → HasMap program code m → IsState code.program g → (shown : Shows code input g s)
+    (s : machine.State) → Tells program code m → IsState code.program g → (shown : Shows code input g s)
     → (r : IsMarkIn program code m g.current.function mark) → r.point.number ≡ g.point
     → op_at code.program g ≡ Some (op.Mark mark.statement) → AreKnownParts m mark r.own.function.locals g
     → values_of m mark s
@@ -219,7 +218,7 @@ values-shown program code m mark input g s h state shown r here has known =
 
 -- at the state's point there is one mark
 mark-is : (program : Program) (code : Code) (m : Map) (input : List ℕ) (g : graph.State) (s : machine.State)
-    (statement : ℕ) → HasMap program code m → Shows code input g s
+    (statement : ℕ) → Tells program code m → Shows code input g s
     → op_at code.program g ≡ Some (op.Mark statement) → (one two : MarkAt) → IsAmong one (marks_of m)
     → IsAmong two (marks_of m) → one.address ≡ s.eip → two.address ≡ s.eip → one ≡ two
 mark-is program code m input g s statement h shown has one two a b e f =
@@ -227,12 +226,11 @@ mark-is program code m input g s statement h shown has one two a b e f =
     let q = mark-in program code m two h b in
     let first = (at-point program code m one input g s r.0 (op.Mark statement) h shown has r.1 e).2 in
     let second = (at-point program code m two input g s q.0 (op.Mark statement) h shown has q.1 f).2 in
-    one-mark one two (marks_of m) h.belongs.once a b
-    (marks-one (op.Mark statement) one.statement two.statement first second)
+    h.one_mark one two a b (marks-one (op.Mark statement) one.statement two.statement first second)
 
 -- its visit is that of the graph
 mark-shown : (program : Program) (code : Code) (m : Map) (mark : MarkAt) (input : List ℕ) (g : graph.State)
-    (s : machine.State) → HasMap program code m → IsState code.program g → (shown : Shows code input g s)
+    (s : machine.State) → Tells program code m → IsState code.program g → (shown : Shows code input g s)
     → op_at code.program g ≡ Some (op.Mark mark.statement) → IsAmong mark (marks_of m) → mark.address ≡ s.eip
     → ((r : IsMarkIn program code m g.current.function mark) × (r.point.number ≡ g.point))
     → AreKnown (visits_at (variables_shown program (listed m)) g (Some (op.Mark mark.statement)))
@@ -241,7 +239,7 @@ mark-shown program code m mark input g s h state shown has among at (r, here) kn
     let parts : List Part = filter_map (part_of (variables_in m mark.function)) mark.standings in
     let lists : listed m mark.statement ≡ parts =
     lists-parts m mark (marks_of m) among
-    (λ other more e. one-mark other mark (marks_of m) h.belongs.once more among e) in
+    (λ other more e. h.one_mark other mark more among e) in
     let shows : variables_shown program (listed m) mark.statement ≡ map (variable_part r.own.function.locals) parts =
     ap (λ (locals : List Local). map (variable_part locals) (listed m mark.statement))
     (mark-locals program code m g.current.function mark r)
@@ -266,7 +264,7 @@ mark-shown program code m mark input g s h state shown has among at (r, here) kn
     (values ∙ ap (map (part_value g)) (sym shows))
 
 marks-shown : (program : Program) (code : Code) (m : Map) (input : List ℕ) (k : ℕ) (g : graph.State)
-    (s : machine.State) (statement : ℕ) → HasMap program code m → IsState code.program g
+    (s : machine.State) (statement : ℕ) → Tells program code m → IsState code.program g
     → (shown : Shows code input g s) → op_at code.program g ≡ Some (op.Mark statement)
     → AreKnown (visits_at (variables_shown program (listed m)) g (Some (op.Mark statement)))
     → visits_of m s ≡ visits_at (variables_shown program (listed m)) g (Some (op.Mark statement))
@@ -287,7 +285,7 @@ marks-shown program code m input k g s statement h state shown has known =
     mark-shown program code m mark input g s h state shown at-mark there.1 at mine are-known) has known
 
 turns-shown : (program : Program) (code : Code) (m : Map) (input : List ℕ) (g : graph.State) (s : machine.State)
-    → HasMap program code m → Shows code input g s → op_at code.program g ≡ Some op.Turn → visits_of m s ≡ []
+    → Tells program code m → Shows code input g s → op_at code.program g ≡ Some op.Turn → visits_of m s ≡ []
 turns-shown program code m input g s h shown has =
     not-visited m s (marks_of m)
     (λ mark among at.
@@ -298,16 +296,17 @@ turns-shown program code m input g s h shown has =
     no-turn : (n : ℕ) → op.Turn ≡ op.Mark n → ⊥
     no-turn n e = cc
 
-elsewhere-shown : (program : Program) (code : Code) (m : Map) (s : machine.State) → HasMap program code m
+elsewhere-shown : (program : Program) (code : Code) (m : Map) (s : machine.State) → Tells program code m
     → IsClear code.text s.eip → visits_of m s ≡ []
 elsewhere-shown program code m s h clear =
     not-visited m s (marks_of m)
     (λ mark among at.
     clear (subst (λ (a : ℕ). IsAt code.text a (0x90 ∷ [])) at
-    (all-among (λ (x : MarkAt). IsAt code.text x.address (0x90 ∷ [])) mark (marks_of m) h.belongs.nops among)))
+    (all-among (λ (x : MarkAt). IsAt code.text x.address (0x90 ∷ [])) mark (marks_of m) h.nops among)))
 
-pub map-shows-visits : MapShowsVisits
-map-shows-visits program code m h = record {
+pub visits-told : (program : Program) (code : Code) (m : Map) → Tells program code m
+    → ShowsVisits code (variables_shown program (listed m)) (visits_of m)
+visits-told program code m h = record {
   marks = λ input k g s statement bytes reached shown has known.
       marks-shown program code m input k g s statement h
       (states_are_states code.program input k g h.is_selected.supported.program bytes reached) shown has known;

@@ -1,4 +1,4 @@
-use Rattle.map_lines.proofs.Arrays.{arrays-found}
+use Rattle.map_lines.proofs.ToldSlots.{arrays-found}
 use Rattle.map_lines.proofs.visits_laws.arrays_are_found.Goals as goal
 
 pub returns : goal.returns

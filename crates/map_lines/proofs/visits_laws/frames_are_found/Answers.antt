@@ -1,6 +1,5 @@
 use Rattle.map_lines.proofs.Between.{none-between}
-use Rattle.map_lines.proofs.Found.{functions-found}
-use Rattle.map_lines.proofs.Frames.{frames-found}
+use Rattle.map_lines.proofs.ToldSlots.{frames-found, functions-found}
 use Rattle.map_lines.proofs.visits_laws.frames_are_found.Goals as goal
 
 pub returns-clause-between : goal.returns-clause-between

@@ -1,4 +1,4 @@
-use Rattle.map_lines.proofs.Visits.{map-shows-visits}
+use Rattle.map_lines.proofs.ToldSlots.{map-shows-visits}
 use Rattle.map_lines.proofs.visits_laws.visits_are_shown.Goals as goal
 
 pub returns : goal.returns
