@@ -1,0 +1,198 @@
+"""Tests of the scripts that read maps: which texts are maps, what the auditor finds, the numbers of statements, and the viewer's boards."""
+import importlib.machinery
+import importlib.util
+import os
+import re
+import shutil
+import subprocess
+import sys
+import tempfile
+import unittest
+
+TOP = os.path.dirname(os.path.dirname(os.path.abspath(__file__)))
+sys.path.insert(0, f"{TOP}/tools")
+
+import graphs  # noqa: E402
+import maps  # noqa: E402
+import statements  # noqa: E402
+
+PCC = os.environ.get("PCC", f"{TOP}/bin/pcc")
+IS_BUILT = "PCC" in os.environ or os.path.exists(f"{TOP}/crates/pcc/out/pcc")
+
+SMALL = """pcc map 1
+object 0 0804a008 4 1
+function 0 main frame 28
+array 0 -24 1 4
+var 0 2 x
+var 1 1 c
+var 2 2 p.base
+var 3 2 p.index
+var 4 2 -
+block 0
+point 0 08048023 mark 0
+board bb bb bb bb pieces
+before
+after
+spilled
+point 3 08048024 const 0 -2147483648
+board bb bb bb bb pieces Z2:0
+before
+after 0=eax
+spilled
+point 1 08048029 return 0
+board bb bb bb bb pieces X2:0
+before 0=eax
+after
+spilled
+end
+"""
+
+# Words of SMALL and what stands in their place, where the text is still a map's.
+MAPS = (
+    ("object 0 0804a008 4 1\n", ""), ("frame 28", "frame 4294967295"), ("point 3 ", "point 4294967295 "), ("const 0 -2147483648", "const 0 2147483647"),
+    ("0=eax", "0=[ebp-2147483648]"), ("pieces Z2:0", "pieces"), ("spilled\npoint 3", "spilled 4 2\npoint 3"), ("mark 0", "same 0 4"), ("mark 0", "wide 0 1"),
+    ("mark 0", "copy 1 1"), ("mark 0", "call - 0 2 3"), ("mark 0", "load 16 0 2 3"), ("08048023", "ffffffff"), ("pieces Z2:0", "pieces X2:0 Z2:0 Y1:1"),
+)
+# And where it is none.
+NO_MAPS = (
+    ("pcc map 1", "pcc map 2"), ("end\n", "end"), ("end\n", ""), ("end\n", "end\nend\n"), ("const 0 -2147483648", "const 0 -0"), ("const 0 -2147483648", "const 0 07"),
+    ("const 0 -2147483648", "const 0 -2147483649"), ("const 0 -2147483648", "const 0 2147483648"), ("frame 28", "frame 4294967296"), ("frame 28", "frame 028"),
+    ("0804a008", "0804A008"), ("0804a008", "804a008"), ("0=eax", "0=[ebp-0]"), ("0=eax", "0=al"), ("0=eax", "0=esi"), ("0=eax", "0=[ebp-2147483649]"),
+    ("before 0", "before  0"), ("before\n", "before \n"), ("pieces X2:0", "pieces X1:0"), ("pieces X2:0", "pieces Y2:0 Z2:0"), ("pieces X2:0", "pieces Z2:0 X2:0"),
+    ("board bb bb bb bb", "board bb bb bb"), ("-24 1 4", "-24 1 3"), ("-24 1 4", "-24 0 4"), ("-24 1 4", "0 1 4"), ("return 0", "jump 1"), ("return 0", "mark 1"),
+    ("mark 0", "return -"), ("point 1 ", "point 3 "), ("mark 0", "load 64 0 2 3"), ("mark 0", "turn 0"), ("mark 0", "copy 0 1"), ("mark 0", "wide 1 1"), ("mark 0", "static 0 1"),
+    ("mark 0", "frame 0 1"), ("mark 0", "call - 1"), ("var 0 2 x", "var 0 2 9x"), ("var 0 2 x", "var 0 3 x"), ("var 2 2 p.base", "var 2 2 .base"), ("var 1 ", "var 2 "),
+    ("block 0\n", "block 0\nblock 1\n"), ("spilled\nend", "spilled 5\nend"), ("spilled\nend", "spilled 1 1\nend"), ("function 0 main frame", "function 0 main"),
+)
+
+
+def tool(name):
+    loader = importlib.machinery.SourceFileLoader(name.replace("-", "_"), f"{TOP}/tools/{name}")
+    module = importlib.util.module_from_spec(importlib.util.spec_from_loader(loader.name, loader))
+    loader.exec_module(module)
+    return module
+
+
+class Texts(unittest.TestCase):
+    def test_maps_are_read(self):
+        for old, new in (("", ""), *MAPS):
+            with self.subTest(new):
+                self.assertEqual(SMALL.count(old) > 0, True)
+                maps.read(SMALL.replace(old, new, 1))
+
+    def test_other_texts_are_refused(self):
+        for old, new in NO_MAPS:
+            with self.subTest(new):
+                self.assertIn(old, SMALL)
+                with self.assertRaises(maps.NotMap):
+                    maps.read(SMALL.replace(old, new, 1))
+
+    def test_no_beginning_is_a_map(self):
+        for length in range(len(SMALL)):
+            with self.assertRaises(maps.NotMap):
+                maps.read(SMALL[:length])
+
+
+class Boards(unittest.TestCase):
+    def test_areas(self):
+        areas = lambda text, **more: " ".join(graphs.areas_of(graphs.free_cells(maps.Op(text.split(), **more))))
+        self.assertEqual(areas("add 0 1 2", reads=[1, 2], writes=0), "bb bb bb bb")
+        self.assertEqual(areas("shl 0 1 2", reads=[1, 2], writes=0), "bb bb lb bb")
+        self.assertEqual(areas("div 0 1 2", reads=[1, 2], writes=0), "nn bb bb nn")
+        self.assertEqual(areas("rem 0 1 2", reads=[1, 2], writes=0), "nn bb bb nn")
+        self.assertEqual(areas("getchar 0", writes=0), "uu bb uu uu")
+        self.assertEqual(areas("call - 0"), "uu bb uu uu")
+        self.assertEqual(areas("exit 0", reads=[0]), "uu bb uu uu")
+
+    def test_solvable(self):
+        audit = tool("audit-map")
+        free = lambda words: frozenset((k, c, row) for k, word in enumerate(words.split()) for c in (0, 1) for row in "ul"
+                                       if word[c] in ("b", row))
+        pieces = lambda words: [(word[0], int(word[1]), k) for k, word in enumerate(words.split())]
+        for areas, board, holds in (("bb bu nn nn", "X2 Z2 Y1", True), ("bb nn nn nn", "Y2 X1 Z1", False), ("ub nn nn nn", "X2 Z1 Z1", False),
+                                    ("bb bb bb bb", "Y2 Y2 Y2 Y2", True), ("bb bb bb bb", "Y2 Y2 Y2 Y2 X1", False), ("uu ll nn nn", "X2 Z2", True)):
+            self.assertEqual(audit.solvable(free(areas), pieces(board), set()), holds, board)
+
+
+class Numbers(unittest.TestCase):
+    def test_statements(self):
+        text = """int x = 1, y;
+static int f(int a)
+{
+    for (int i = 0, k; i < a; i++)
+        if (i) { static int s = 3; int t[2] = {1, 2}, u = i ? s : a; }
+        else
+            ;
+    switch (a) { case 1 ? 2 : 3: case 4: x = 1; break; default: { y = 2; } }
+    do x++; while (x < 3);
+    return x;
+}
+int main(void) { return f(3); }
+"""
+        with tempfile.TemporaryDirectory() as room:
+            path = f"{room}/a.c"
+            with open(path, "w", encoding="ascii") as file:
+                file.write(text)
+            found = [(it.line, it.function) for it in statements.statements_of([path])]
+        lines = [4, 4, 4, 5, 5, 5, 7, 8, 8, 8, 8, 9, 9, 10, 12]
+        self.assertEqual(found, [(line, "f" if line < 12 else "main") for line in lines])
+
+
+# Of the map of examples/strings.c, words of some line and what stands in their place: each makes it untrue.
+CHANGES = (
+    (r"^before (\d+)=(\w+)", r"before"), (r"^after (\d+)=eax\b", r"after \1=edx"), (r"^after (\d+)=ebx\b", r"after \1=ecx"), (r"^before (\d+)=ecx\b", r"before \1=ebx"),
+    (r"^board bb bb bb bb", "board bb bb bb bu"), (r"^board uu", "board bb"), (r"pieces X", "pieces Y"), (r"pieces Y", "pieces X"), (r" Z2:\d+$", ""), (r"pieces$", "pieces X2:0"),
+    (r"^spilled (\d+)$", "spilled"), (r"^spilled$", "spilled 0"), (r"^spilled (\d+) (\d+)", r"spilled \2 \1"), (r"(\d+)=\[ebp-20\]", r"\1=[ebp-24]"),
+    (r"frame (\d+)$", "frame 4"), (r"^array 0 -(\d+)", "array 0 -20"), (r"^point (\d+) 08048(\w)", r"point \1 08049\2"), (r"^point (\d+) (\w+) mark 3$", r"point \1 08048000 mark 3"),
+    (r" mark (\d+)$", " turn"), (r" turn$", " mark 4000"), (r" add (\d+) (\d+) (\d+)$", r" add \1 \2 \2"), (r" add (\d+) (\d+) (\d+)$", r" add \2 \1 \3"),
+    (r" const (\d+) ", " const 0 "), (r" load 8 (\d+) (\d+) (\d+)$", r" load 8 \1 \3 \2"), (r" branch (\w+) (\d+) (\d+) (\d+) (\d+)$", r" branch \1 \2 \3 \5 \5"),
+    (r" branch (\w+) (\d+) (\d+) ", r" branch \1 \2 \2 "), (r" jump (\d+)$", " jump 0"), (r" call (\d+) (\d+) (\d+)", r" call - \2 \3"), (r" return (\d+)$", " return -"),
+    (r" copy (\d+) (\d+)$", r" copy \2 \2"),
+)
+
+
+@unittest.skipUnless(IS_BUILT, "left out: bin/pcc isn't built")
+class Programs(unittest.TestCase):
+    @classmethod
+    def setUpClass(cls):
+        cls.room = tempfile.mkdtemp()
+        cls.image = f"{cls.room}/strings"
+        subprocess.run([f"{TOP}/bin/pcc-cc", "-o", cls.image, f"{TOP}/examples/strings.c"], env={**os.environ, "PCC": PCC}, check=True)
+        with open(f"{cls.image}.map", encoding="ascii") as file:
+            cls.text = file.read()
+
+    @classmethod
+    def tearDownClass(cls):
+        shutil.rmtree(cls.room)
+
+    def test_changed_maps_are_found(self):
+        audit = tool("audit-map")
+        with open(self.image, "rb") as file:
+            image = file.read()
+        self.assertRegex(audit.audit(self.text, image), r"\d+ points")
+        for old, new in CHANGES:
+            with self.subTest(new):
+                changed, many = re.subn(old, new, self.text, count=1, flags=re.MULTILINE)
+                self.assertEqual(many, 1, old)
+                self.assertNotEqual(changed, self.text)
+                with self.assertRaises((maps.NotMap, audit.Untrue)):
+                    audit.audit(changed, image)
+
+    def test_boards_are_shown(self):
+        f = maps.read(self.text).functions[0]
+        point = f.points()[0]
+        done = subprocess.run([f"{TOP}/tools/view-map", "-p", f"{f.name}:{point.number}", f"{self.image}.map"], capture_output=True, text=True, check=True)
+        self.assertTrue(done.stdout.startswith(f"point {point.number} of {f.name} at {point.address:08x}: "))
+        self.assertIn("spill order", done.stdout)
+
+    def test_page_is_made(self):
+        page = f"{self.room}/page.html"
+        subprocess.run([f"{TOP}/tools/view-map", "-o", page, f"{self.image}.map", self.image, f"{TOP}/examples/strings.c"], capture_output=True, check=True)
+        with open(page, encoding="utf-8") as file:
+            text = file.read()
+        self.assertNotIn("DATA</script>", text)
+        self.assertIn('"functions":[', text)
+
+
+if __name__ == "__main__":
+    unittest.main()
