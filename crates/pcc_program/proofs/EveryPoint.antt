@@ -1,7 +1,7 @@
 -- Along a run of the graphs, how many steps the machine has made where it shows each of their states.
 use Rattle.std.proofs.Common.{◌≡◌, ◌<◌, ◌≤◌, ◌+◌, ℕ, zero, suc, Bool, true, false, List, [], ◌∷◌, ◌++◌, length, Option, Some, None}
-use Rattle.std.proofs.Common.{refl, sym, subst}
-use Rattle.std.proofs.List.{length-append}
+use Rattle.std.proofs.Common.{arith, refl, sym, subst}
+use Rattle.std.proofs.lemmas.List.{length-append}
 use Rattle.flow_graph.specs.Meaning.{Moved, Moves, Halts, Stuck, step}
 use Rattle.flow_graph.specs.Running.{GraphAt, first_state, from_state, state_after}
 use Rattle.flow_graph.specs.States as graph
@@ -73,21 +73,23 @@ module _ (keeps : StepKeepsState) (code : Code) (input : List ℕ) (well_formed 
       → IsShownAfter image code input g start → (is_nop (op_at code.program g) ≡ true → 1 ≤ n)
       → Traced u (start + n) j → Traced g start (suc j)
   one-more j n start g u leads here nop later = record {
-      steps = at_first start later.steps;
-      first = refl;
-      shown = shown_at;
-      never_fall = falls_at;
-      rise = rises_at;
-    }
+    steps = at_first start later.steps;
+    first = refl;
+    shown = shown_at;
+    never_fall = falls_at;
+    rise = rises_at;
+  }
     where
       shown_at : (i : ℕ) (h : graph.State) → i ≤ suc j → state_after code.program i g ≡ Some h
           → IsShownAfter image code input h (at_first start later.steps i)
       shown_at zero h le e = shown-same g h start here e
       shown_at (suc i) h le e =
           later.shown i h (omega (arith, le)) (rw leads at e)
+
       falls_at : (i : ℕ) → i < suc j → at_first start later.steps i ≤ at_first start later.steps (suc i)
       falls_at zero lt = omega (arith, later.first)
       falls_at (suc i) lt = later.never_fall i (omega (arith, lt))
+
       rises_at : (i : ℕ) (h : graph.State) → i < suc j → state_after code.program i g ≡ Some h
           → is_nop (op_at code.program h) ≡ true → at_first start later.steps i < at_first start later.steps (suc i)
       rises_at zero h lt e is =
@@ -101,15 +103,15 @@ module _ (keeps : StepKeepsState) (code : Code) (input : List ℕ) (well_formed 
       → Follows code input s g nop m → from_state m (state_after code.program j) ≡ Some t → Traced g start (suc j)
   along j later true (Moves u) g t start s first xs is begins path many shows nop leads (v, one, (w, comes, there)) e =
       let on : IsShownAfter image code input u (start + suc (length comes.addresses)) =
-          shown-further start (suc (length comes.addresses)) s w first xs (s.eip ∷ comes.addresses) u begins path many
-          (v, refl, one, comes.path) refl there in
+      shown-further start (suc (length comes.addresses)) s w first xs (s.eip ∷ comes.addresses) u begins path many
+      (v, refl, one, comes.path) refl there in
       one-more j (suc (length comes.addresses)) start g u leads (first, s, xs, begins, path, many, shows)
       (λ at_nop. omega arith)
       (later u t (start + suc (length comes.addresses)) (keeps code.program g u well_formed is leads) on e)
   along j later false (Moves u) g t start s first xs is begins path many shows nop leads (w, comes, there) e =
       let on : IsShownAfter image code input u (start + length comes.addresses) =
-          shown-further start (length comes.addresses) s w first xs comes.addresses u begins path many comes.path refl
-          there in
+      shown-further start (length comes.addresses) s w first xs comes.addresses u begins path many comes.path refl
+      there in
       one-more j (length comes.addresses) start g u leads (first, s, xs, begins, path, many, shows)
       (λ at_nop. absurd (false-true (rw nop at at_nop)))
       (later u t (start + length comes.addresses) (keeps code.program g u well_formed is leads) on e)
@@ -119,12 +121,12 @@ module _ (keeps : StepKeepsState) (code : Code) (input : List ℕ) (well_formed 
 
   traces : (j : ℕ) → TracesAll j
   traces zero g t start is here e = record {
-      steps = λ i. start;
-      first = refl;
-      shown = λ i h le e. shown-same g h start here (none-left i g h le e);
-      never_fall = λ i lt. omega arith;
-      rise = λ i h lt e at_nop. omega (arith, lt);
-    }
+    steps = λ i. start;
+    first = refl;
+    shown = λ i h le e. shown-same g h start here (none-left i g h le e);
+    never_fall = λ i lt. omega arith;
+    rise = λ i h lt e at_nop. omega (arith, lt);
+  }
   traces (suc j) g t start is (first, s, xs, begins, path, many, shows) e =
       along j (traces j) (is_nop (op_at code.program g)) (step code.program g) g t start s first xs is begins path many
       shows refl refl (follows input g s is shows) e
@@ -134,9 +136,15 @@ pub every-point : FirstIsState → StepKeepsState → TextBegins → RightCodeIs
 every-point begins keeps loads code well_formed right fits input k g bytes (first, is_first, after) =
     let (t, comes, shows) = right.starts input first bytes is_first in
     let traced = traces keeps code input well_formed right.follows (image_of code) k first g (length comes.addresses)
-        (begins code.program input first well_formed bytes is_first)
-        (text_state code.text (objects_of code.program) input, t, comes.addresses,
-        loads code.text (objects_of code.program) input fits, comes.path, refl, shows) after in
+    (begins code.program input first well_formed bytes is_first) (
+      text_state code.text (objects_of code.program) input,
+      t,
+      comes.addresses,
+      loads code.text (objects_of code.program) input fits,
+      comes.path,
+      refl,
+      shows,
+    ) after in
     record {
       steps = traced.steps;
       shown = λ j h le at. traced.shown j h le (after-first code.program input first is_first j h at);

@@ -15,14 +15,14 @@ use Rattle.ia32_rows.specs.Shows.{Shows}
 use Rattle.pcc_program.specs.CompiledLaws.{GraphsAreShown}
 
 -- one path after another
-path-then : (xs ys : List ℕ) (s t u : machine.State) → Path xs s t → Path ys t u → Path (xs ++ ys) s u
+pub path-then : (xs ys : List ℕ) (s t u : machine.State) → Path xs s t → Path ys t u → Path (xs ++ ys) s u
 path-then [] ys s t u path next = subst (λ (v : machine.State). Path ys v u) (sym path) next
 path-then (x ∷ xs) ys s t u (v, at, one, path) next = (v, at, one, path-then xs ys v t u path next)
 
-none-some : (g : graph.State) → ◌≡◌ {A = Option graph.State} None (Some g) → ⊥
+pub none-some : (g : graph.State) → ◌≡◌ {A = Option graph.State} None (Some g) → ⊥
 none-some g e = cc
 
-some-same : (g h : graph.State) → Some g ≡ Some h → g ≡ h
+pub some-same : (g h : graph.State) → Some g ≡ Some h → g ≡ h
 some-same g h e = cc
 
 module _ (keeps : StepKeepsState) (code : Code) (input : List ℕ) (well_formed : IsGraphProgram code.program)
