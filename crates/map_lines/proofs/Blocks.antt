@@ -8,7 +8,6 @@ use Rattle.std.proofs.lemmas.Option.{same_Some}
 use Rattle.pcc_base.proofs.Lists.{all-append, all-left, all-right}
 use Rattle.flow_graph.specs.Graphs.{Flow, IsDistinct, IsFlow, IsIn, IsPlaced, Stands, points_of}
 use Rattle.flow_graph.proofs.Points.{every-in, every-from}
-use Rattle.map_lines.specs.ProgramMap.{all_points}
 
 -- ---- lists
 
@@ -36,6 +35,10 @@ distinct-both (x ∷ xs) ys one other away = (
 )
 
 -- ---- blocks
+
+-- the points of all blocks, in order
+abbrev pub all_points : Flow → List ℕ
+all_points flow = flat_map (λ points. points) flow.blocks
 
 -- a point among those of all blocks is in one of them
 one-block : (p : ℕ) (blocks : List (List ℕ)) → IsIn p (flat_map (λ points. points) blocks) → (k : ℕ)

@@ -25,7 +25,14 @@ pub mod VisitsVariables
 pub mod Values
 pub mod Marks
 pub mod Visits
+pub mod HomesPoints
+pub mod HomesMarks
+pub mod HomesBelonging
+pub mod HomesListing
+pub mod Permuted
+pub mod HomesPlaces
+pub mod HomesBoards
+pub mod HomesObjects
+pub mod HomesRules
 pub mod ToldSlots
-pub mod LivePlaces
-pub mod HomePoints
 pub mod ToldHomes

@@ -51,7 +51,7 @@ HomesMapKeepsRules =
 abbrev pub HomesMapListsLocals : Type 0
 HomesMapListsLocals =
     (program : Program) (code : Code) (m : Map) → WellTyped program → HaveShapes program code.program
-    → IsMapOf program code m → ListsLocals program (listed m)
+    → HaveMarks program code.program → IsMapOf program code m → ListsLocals program (listed m)
 
 -- the map is the same where the points have the same addresses
 abbrev pub HomesMapBySameAddresses : Type 0

@@ -84,9 +84,9 @@ map_of program flows homes objects addresses =
 
 -- ---- whose map it is
 
--- The home of a graph's variables: its map is legal by these live sets, and at each point exactly the shortest prefix of
--- the spill order is spilled without which the board is solvable. The code of the graph is over this map, with some
--- instructions between its points.
+-- The home of a graph's variables: its map is legal by these live sets, each of which ascends, and at each point exactly
+-- the shortest prefix of the spill order is spilled without which the board is solvable. The code of the graph is over
+-- this map, with some instructions between its points.
 pub record IsHome (flow : Flow) (home : Home) (placement : Placement) : Type 0 where
   pub legal : IsLegalMap flow home.places
   pub same_lives : legal.lives ≡ home.lives

@@ -3,16 +3,22 @@
 ghost use Rattle.map_lines.specs.MapLaws.{HomesMapBelongs, HomesMapBySameAddresses, HomesMapKeepsRules};
 ghost use Rattle.map_lines.specs.MapLaws.{HomesMapListsLocals, HomesMapShowsVisits};
 
+use ia32_laws::{points_are_apart, points_stand};
+
 /// The map of the program over homes of its variables belongs to the program and to its code: a NOP stands at the address
 /// of each mark.
 pub fn homes_map_belongs()
     ensures { HomesMapBelongs }
-{}
+{
+    points_are_apart();
+}
 
 /// Where the functions and their locals have names, it keeps the rules of a map.
 pub fn homes_map_keeps_rules()
     ensures { HomesMapKeepsRules }
-{}
+{
+    points_stand();
+}
 
 /// What any map of a typed program lists are locals of the program.
 pub fn homes_map_lists_locals()
