@@ -8,9 +8,9 @@ use Rattle.c_tree.specs.Program.{Function, Program}
 use Rattle.flow_graph.specs.declared.op.Op.{Op}
 use Rattle.flow_graph.specs.declared.op.Op.TheVariants as op
 use Rattle.flow_graph.specs.Graphs.{Flow, IsFlow, IsIn, IsPlaced}
-use Rattle.flow_graph.specs.Lives.{IsAscending, Lives, at_point}
+use Rattle.flow_graph.specs.Lives.{IsAscending, Lives}
 use Rattle.flow_graph.proofs.Ascending.{ascending-at}
-use Rattle.puzzle_board.specs.Places.{Entry, entries_at, place_in}
+use Rattle.puzzle_board.specs.Places.{Entry, entries_at}
 use Rattle.lower_lines.specs.Lowering.{HasShape, MarksStatements, first_statement}
 use Rattle.lower_lines.specs.Shown.{local_widths}
 use Rattle.ia32_rows.specs.Paths.{IsAt}
@@ -56,8 +56,7 @@ point-of f flow home address p among =
     let F : ℕ → MapPoint = λ n. point_at flow home address n in
     let r = from-points F (all_points flow) p
     (subst (λ (ps : List MapPoint). IsAmong p ps) (points-are f flow home address) among) in
-    let same : r.0 ≡ p.number = ap (λ (x : MapPoint). x.number) r.2 in
-    (
+    let same : r.0 ≡ p.number = ap (λ (x : MapPoint). x.number) r.2 in (
       subst (λ (n : ℕ). IsPlaced flow n) same (placed-in flow r.0 r.1),
       subst (λ (n : ℕ). point_at flow home address n ≡ p) same r.2,
     )
