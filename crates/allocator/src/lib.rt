@@ -37,5 +37,6 @@ pub use board_laws::{worked_boards, worked_maps};
 pub use elementary::{Elementary, split};
 pub use point_board::board_of;
 pub use point_pieces::pieces_of;
+pub use registers::areas_of;
 pub use solution::Solution;
 pub use worked_laws::worked_example;
