@@ -50,7 +50,8 @@ array-computed header z low high e =
 
 -- ---- lists
 
-numbers-more : (a n : ℕ) → range_with_len a n ++ (a + n) ∷ [] ≡ range_with_len a (suc n)
+-- one number more behind those from one on
+pub numbers-more : (a n : ℕ) → range_with_len a n ++ (a + n) ∷ [] ≡ range_with_len a (suc n)
 numbers-more a zero = let e : a + 0 ≡ a = omega arith in ap (λ (k : ℕ). k ∷ []) e
 numbers-more a (suc n) =
     let e : a + suc n ≡ a + 1 + n = omega arith in
