@@ -4,7 +4,7 @@ use Rattle.std.proofs.Common.{inl, inr, refl, sym, ap, subst, ◌∙◌, arith, 
 use Rattle.std.specs.Prelude.{◌==◌, ◌||◌, not, option_map, slice_get, if◌then◌else◌}
 use Rattle.std.specs.List.{AllByRecursion, AllZip, list_any}
 use Rattle.std.proofs.Math.ListN.{drop_of_length-le}
-use Rattle.std.proofs.lemmas.Bool.Decides.{eqb_tells}
+use Rattle.std.proofs.lemmas.Bool.Decides.{eqb_tells, nat_tests}
 use Rattle.std.proofs.lemmas.List.{drop_more}
 use Rattle.std.proofs.lemmas.Option.{none-some, slice_get_within}
 use Rattle.std.proofs.lemmas.Slice.Zip.{AllZip-long}
@@ -13,6 +13,7 @@ use Rattle.pcc_base.proofs.Lists.{all-push}
 use Rattle.ia32_insn.specs.Places.{Place, InWord, InByte, InSlot}
 use Rattle.flow_graph.specs.Graphs.{Flow, HasWidth, IsDistinct, IsFlow, IsIn}
 use Rattle.flow_graph.specs.Liveness.{IsSuccessor}
+use Rattle.flow_liveness.proofs.Placed.{placed-within}
 use Rattle.puzzle_board.specs.declared.place.Place.{Place as BoardPlace}
 use Rattle.puzzle_board.specs.Places.{Entry, PlaceMap, entries_at, place_in}
 use Rattle.allocator.specs.PointMaps.{IsLegalMap}
@@ -20,7 +21,7 @@ use Rattle.ia32_rows.proofs.Moves.{alike, unlike}
 use Rattle.ia32_laws.specs.Supports.{HoldsWidth}
 use Rattle.ia32_placements.specs.Laws.{IsMoved}
 use Rattle.ia32_placements.specs.Standings.{standing_after, standing_before, standing_if_any}
-use Rattle.ia32_placements.proofs.Edges.{stood-behind}
+use Rattle.ia32_placements.proofs.Edges.{next-placed, stood-behind}
 use Rattle.ia32_placements.proofs.Moving.{moves-are-few}
 use Rattle.ia32_emit.specs.declared.locations.Location.{Location}
 use Rattle.ia32_emit.specs.Locations.{place_of}
@@ -30,6 +31,7 @@ use Rattle.parallel_copies.specs.Overlap.{is_idle}
 use Rattle.parallel_copies.specs.Steps.{is_busy}
 use Rattle.parallel_copies.proofs.Starting.{idle-same}
 use Rattle.ia32_select.specs.EdgeMoves.{AreMovesOf, IsMinded, IsMoveOf, Minds, Stays}
+use Rattle.ia32_select.specs.Selections.{CanSelect}
 use Rattle.ia32_select.proofs.Bridging.{after-for, one-slot}
 
 -- ---- one variable
@@ -186,20 +188,22 @@ minds-listed places point next v vs among = record { this = inl among; others = 
 
 pub listed : (v : ℕ) (vs : List ℕ) → list_any (λ w. w == v) vs ≡ true → IsIn v vs
 listed v [] e = cc
-listed v (x ∷ xs) e = chosen (x == v) refl e
+listed v (x ∷ xs) e = chosen (x == v) refl e (listed v xs)
   where
-    chosen : (b : Bool) → (x == v) ≡ b → (b || list_any (λ w. w == v) xs) ≡ true → IsIn v (x ∷ xs)
-    chosen true same f = inl (alike x v same)
-    chosen false other f = inr (listed v xs f)
+    chosen : (b : Bool) → (x == v) ≡ b → (b || list_any (λ w. w == v) xs) ≡ true
+        → (list_any (λ w. w == v) xs ≡ true → IsIn v xs) → IsIn v (x ∷ xs)
+    chosen true same f rest = inl (alike x v same)
+    chosen false other f rest = inr (rest f)
 
 pub unlisted : (v : ℕ) (vs : List ℕ) → list_any (λ w. w == v) vs ≡ false → IsIn v vs → ⊥
 unlisted v [] e among = among
-unlisted v (x ∷ xs) e among = chosen (x == v) refl e among
+unlisted v (x ∷ xs) e among = chosen (x == v) refl e among (unlisted v xs)
   where
-    chosen : (b : Bool) → (x == v) ≡ b → (b || list_any (λ w. w == v) xs) ≡ false → IsIn v (x ∷ xs) → ⊥
-    chosen true same f among = cc
-    chosen false other f (inl same) = unlike x v other same
-    chosen false other f (inr among) = unlisted v xs f among
+    chosen : (b : Bool) → (x == v) ≡ b → (b || list_any (λ w. w == v) xs) ≡ false → IsIn v (x ∷ xs)
+        → (list_any (λ w. w == v) xs ≡ false → IsIn v xs → ⊥) → ⊥
+    chosen true same f among rest = cc
+    chosen false other f (inl same) rest = unlike x v other same
+    chosen false other f (inr among) rest = rest f among
 
 -- ---- the entries before the next point
 
@@ -248,3 +252,13 @@ left-last places point next vs entries i past left v = by (left v)
     by (inl minded) = minded
     by (inr l) =
         absurd (none-some l.0 (ap (λ (es : List Entry). place_in es v) (sym (drop_of_length-le entries past)) ∙ l.1))
+
+-- ---- both points are there
+
+pub edge-points : (flow : Flow) (homes : List ℕ) (places : PlaceMap) → IsFlow flow homes → CanSelect flow places
+    → (point next : ℕ) → IsSuccessor flow point next → (point < length places.before) × (next < length places.before)
+edge-points flow homes places is h point next leads =
+    let same = h.points in
+    let first = placed-within flow homes is point leads.0 in
+    let second = placed-within flow homes is next (next-placed flow homes places is h.legal point next leads) in
+    (omega (arith, first, same), omega (arith, second, same))

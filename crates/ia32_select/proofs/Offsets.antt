@@ -48,7 +48,7 @@ bytes-split : (arrays : List (ℕ × ℕ)) (k : ℕ)
     → bytes_of_arrays (take k arrays) + bytes_of_arrays (drop k arrays) ≡ bytes_of_arrays arrays
 bytes-split [] zero = refl
 bytes-split [] (suc k) = refl
-bytes-split (a ∷ arrays) zero = refl
+bytes-split (a ∷ arrays) zero = omega arith
 bytes-split (a ∷ arrays) (suc k) = let rest = bytes-split arrays k in omega (arith, rest)
 
 -- those from an array on are its own and those of the others

@@ -1,14 +1,15 @@
 -- Stretches of all instructions of a table.
-use Rattle.std.proofs.Common.{◌≡◌, ◌≤◌, ◌<◌, ◌+◌, ◌-◌, ℕ, zero, suc, List, [], ◌∷◌, ◌++◌, Option, length, map}
+use Rattle.std.proofs.Common.{◌≡◌, ◌≤◌, ◌<◌, ◌+◌, ◌-◌, ℕ, zero, suc, List, [], ◌∷◌, ◌++◌, Option, Some, None, length, map}
 use Rattle.std.proofs.Common.{refl, sym, ap, subst, ◌∙◌, arith, length-append, replicate, take, drop, append-nil}
-use Rattle.std.specs.Prelude.{slice_get, slice_range, slice_set}
+use Rattle.std.specs.Prelude.{option_map, slice_get, slice_range, slice_set}
 use Rattle.std.specs.List.{AllByRecursion}
 use Rattle.std.proofs.Math.Seq.{drop-append_seam, take-append_seam}
 use Rattle.std.proofs.lemmas.List.{drop-append-le, length-drop, map-set, take-append-le}
+use Rattle.std.proofs.lemmas.Option.{slice_get-map}
 use Rattle.pcc_base.proofs.Lists.{all-weaker}
 use Rattle.ia32_insn.specs.declared.insn.Insn.{Insn}
 use Rattle.ia32_select.specs.declared.stretch.Stretch.{Stretch}
-use Rattle.ia32_select.specs.MoveTables.{AreWithin, IsWithin, Way, Ways, way_in, ways_in}
+use Rattle.ia32_select.specs.MoveTables.{AreWithin, IsWithin, Way, Ways, between_in, on_way, way_in, ways_in}
 
 -- what holds of one holds of as many
 pub all-replicate : {X : Type 0} (P : X → Type 0) (n : ℕ) (x : X) → P x → AllByRecursion P (replicate n x)
@@ -109,3 +110,21 @@ set-way a b c m n ways point one two first second h e f g i j k l o =
       within = all-set (AreWithin c) ways point (one, two) all
           ((here.1.0, omega (arith, here.1.1, long, more)), there.1);
     }
+
+-- ---- what a table has
+
+-- between two points it has what the ways of the first have
+pub between-there : (insns : List Insn) (ways : List (Stretch × Stretch)) (point next : ℕ) (w : Stretch × Stretch)
+    (o : Option (Stretch × Stretch)) → o ≡ slice_get ways point → o ≡ Some w
+    → on_way (Some (ways_in insns w)) next ≡ between_in (map (ways_in insns) ways) point next
+between-there insns ways point next w o e f =
+    ap (λ (x : Option Ways). on_way x next)
+    (sym (slice_get-map (ways_in insns) ways point ∙ ap (option_map (ways_in insns)) (sym e ∙ f)))
+
+-- and nothing from a point that isn't there
+pub between-nowhere : (insns : List Insn) (ways : List (Stretch × Stretch)) (point next : ℕ)
+    (o : Option (Stretch × Stretch)) → o ≡ slice_get ways point → o ≡ None
+    → on_way None next ≡ between_in (map (ways_in insns) ways) point next
+between-nowhere insns ways point next o e f =
+    ap (λ (x : Option Ways). on_way x next)
+    (sym (slice_get-map (ways_in insns) ways point ∙ ap (option_map (ways_in insns)) (sym e ∙ f)))

@@ -3,7 +3,7 @@ use Rattle.std.proofs.Common.{◌≡◌, ◌≢◌, ◌⊎◌, ◌≤◌, ◌<�
 use Rattle.std.proofs.Common.{Option, Some, None, inl, inr, refl, sym, ap, subst, ◌∙◌, arith, length, drop, get_or}
 use Rattle.std.specs.Prelude.{◌==◌, slice_get, slice_set, if◌then◌else◌}
 use Rattle.std.proofs.Math.ListN.{drop_of_length-le}
-use Rattle.std.proofs.lemmas.Bool.Decides.{eqb_tells}
+use Rattle.std.proofs.lemmas.Bool.Decides.{eqb_tells, nat_tests}
 use Rattle.std.proofs.lemmas.List.{drop_more, length-set}
 use Rattle.std.proofs.lemmas.Option.{none-some, same_Some}
 use Rattle.ia32_insn.specs.declared.insn.Insn.{Insn}
@@ -89,10 +89,10 @@ fills-point flow places point first second a b old new nexts f g inside e =
 -- ---- the points of a block
 
 -- what was done stays, and each point of the block is done or left
-pub record FillsSome (flow : Flow) (places : PlaceMap) (block : ℕ) (left : List ℕ) (old new : List Ways) : Type 0 where
+pub record FillsSome (flow : Flow) (places : PlaceMap) (block : ℕ) (rest : List ℕ) (old new : List Ways) : Type 0 where
   pub points : length new ≡ length old
   pub stays : (p : ℕ) → IsDone flow places old p → IsDone flow places new p
-  pub left : (p : ℕ) → Stands flow p block → IsDone flow places new p ⊎ IsIn p left
+  pub left : (p : ℕ) → Stands flow p block → IsDone flow places new p ⊎ IsIn p rest
 
 pub block-first : (flow : Flow) (places : PlaceMap) (block : ℕ) (table : List Ways) (points : List ℕ)
     → points ≡ points_of flow block → FillsSome flow places block points table table
@@ -171,7 +171,7 @@ between-all flow places between point next h =
 
 pub blocks-last : (flow : Flow) (places : PlaceMap) (blocks : ℕ) (table : List Ways) → length flow.blocks ≤ blocks
     → AreDone flow places blocks table → AllMove flow places (between_in table)
-blocks-last flow places blocks table past all point next (placed, rest) =
-    let within = block-within flow.blocks placed.0 point placed.1 in
+blocks-last flow places blocks table past all point next leads =
+    let within = block-within flow.blocks leads.0.0 point leads.0.1 in
     between-all flow places (between_in table) point next
-    (all.done placed.0 point (omega (arith, within, past)) placed.1 next (placed, rest))
+    (all.done leads.0.0 point (omega (arith, within, past)) leads.0.1 next leads)

@@ -1,6 +1,6 @@
 //! A table of the instructions between points.
 
-ghost use Rattle.std.specs.Prelude.{◌≡◌, ◌<◌, ◌++◌, length, slice_range, slice_set, Some, IfOk, MatchResult, OnOk};
+ghost use Rattle.std.specs.Prelude.{◌≡◌, ◌<◌, ◌++◌, length, slice_get, slice_range, slice_set, Some, IfOk, MatchResult, OnOk};
 ghost use Rattle.ia32_select.specs.MoveTables.{AreWithin, IsWithin, between_in, is_to, on_way, ways_in};
 
 use crate::stretch::Stretch;
@@ -86,6 +86,13 @@ fn on_way(insns: &[Insn], ways: (Stretch, Stretch), next: u32) -> &[Insn]
     }
 }
 
+/// The ways of a point, if it is there.
+fn ways_at(ways: &[(Stretch, Stretch)], point: u32) -> Option<(Stretch, Stretch)>
+    ensures { result ≡ slice_get ways.now point }
+{
+    ways.get(point as usize).copied()
+}
+
 impl MoveTable {
     /// A table of so many points, with nothing between them.
     pub fn new(alloc: Global, points: u32) -> Result<MoveTable, NoMemory>
@@ -122,8 +129,8 @@ impl MoveTable {
     pub fn between(&self, point: u32, next: u32) -> &[Insn]
         ensures { result.now ≡ between_in self.now point next }
     {
-        match self.ways.get(point as usize) {
-            Some(ways) => on_way(self.insns.as_slice(), *ways, next),
+        match ways_at(self.ways.as_slice(), point) {
+            Some(ways) => on_way(self.insns.as_slice(), ways, next),
             None => &[],
         }
     }
