@@ -10,6 +10,7 @@ mod Offsets
 mod Ranges
 mod PointRows
 pub mod RowSizes
+mod Selected
 pub mod Short
 pub mod Sums
 mod Tables

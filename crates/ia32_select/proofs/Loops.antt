@@ -18,7 +18,8 @@ drop-from [] k x e = absurd (none-some x e)
 drop-from (y ∷ xs) zero x e = ap (λ a. a ∷ xs) (same_Some y x e)
 drop-from (y ∷ xs) (suc k) x e = drop-from xs k x e
 
-drop-here : {A : Type 0} (xs : List A) (k : ℕ) (x : A) → slice_get xs k ≡ Some x → drop k xs ≡ x ∷ drop (k + 1) xs
+-- the same, with the next number as a sum
+pub drop-here : {A : Type 0} (xs : List A) (k : ℕ) (x : A) → slice_get xs k ≡ Some x → drop k xs ≡ x ∷ drop (k + 1) xs
 drop-here xs k x e =
     let one : suc k ≡ k + 1 = omega arith in drop-from xs k x e ∙ ap (λ n. x ∷ drop n xs) one
 

@@ -67,11 +67,13 @@ bytes-from (a ∷ arrays) (suc k) array e =
 pub record AreOffsets (flow : Flow) (places : PlaceMap) (count header : ℕ) (offsets : List ℤ) : Type 0 where
   pub offsets_are : slots_of offsets ≡ map (array_below flow places) (range_with_len 0 count)
   pub header_is : header ≡ above_arrays places + bytes_of_arrays (drop count flow.arrays)
+  pub small : header ≤ 0x4000
 
 pub offsets-first : (flow : Flow) (places : PlaceMap) (header : ℕ) (offsets : List ℤ) → CanSelect flow places
     → header ≡ places.frame → offsets ≡ [] → AreOffsets flow places 0 header offsets
 offsets-first flow places header offsets h e f =
-    record { offsets_are = ap slots_of f; header_is = e ∙ h.legal.frame.frame }
+    let small = frame-within flow places h in
+    record { offsets_are = ap slots_of f; header_is = e ∙ h.legal.frame.frame; small = omega (arith, e, small) }
 
 -- what the offset of a place below EBP is below it
 below-offset : (n : ℕ) → distance (offset_of n) ≡ n
@@ -100,6 +102,7 @@ offsets-more flow places k header next array offsets more h so-far has e f =
           ∙ (ap (map (array_below flow places)) (numbers-more 0 k)
           ∙ ap (λ (n : ℕ). map (array_below flow places) (range_with_len 0 n)) one)))));
       header_is = omega (arith, f, from, is);
+      small = omega (arith, f, so-far.small);
     }
 
 -- an array's bytes are within those from its header on

@@ -1,6 +1,6 @@
 //! The items of points and blocks, and the moves between points.
 
-ghost use Rattle.std.specs.Prelude.{◌≡◌, ◌<◌, ◌∷◌, ◌++◌, length, OnOk};
+ghost use Rattle.std.specs.Prelude.{◌≡◌, ◌<◌, ◌∷◌, ◌++◌, length, slice_get, OnOk};
 ghost use Rattle.ia32_insn.specs.declared.item.Item.TheVariants as item;
 ghost use Rattle.flow_graph.specs.Graphs.{IsPlaced, points_of};
 ghost use Rattle.ia32_rows.specs.Rows.{block_rows, moves_to, point_row, point_rows};
@@ -43,6 +43,13 @@ fn emit_point_and_moves(
     emit_insns(out, moves_to(site, point, next))
 }
 
+/// The point at a place, if there are so many.
+fn point_at(points: &[u32], place: usize) -> Option<u32>
+    ensures { result ≡ slice_get points.now place }
+{
+    points.get(place).copied()
+}
+
 /// The label of a block, and its points.
 fn emit_block(out: &mut Vec<Item>, site: &PlacedSite<'_>, block: u32) -> Result<(), NoMemory>
     requires room { HasRoom (flow_of site.now) }
@@ -55,7 +62,7 @@ fn emit_block(out: &mut Vec<Item>, site: &PlacedSite<'_>, block: u32) -> Result<
     out.push(Item::Label(block))?;
     let points = site.graph.points_in(site.alloc, block)?;
     for place in 0..points.len() {
-        let next = points.get(place + 1).copied();
+        let next = point_at(points.as_slice(), place + 1);
         emit_point_and_moves(out, site, points[place], next)?;
     }
     Ok(())

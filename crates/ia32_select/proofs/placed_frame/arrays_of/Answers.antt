@@ -26,6 +26,6 @@ loop-array-preserved c =
     c.loop-array.offsets.items c.requires c.loop-array.invariant c.array.ensures in
     let z = array-computed header (to_z w32 header) room.0 room.2 (to_z_pos w32 header (omega (arith, room.2))) in
     offsets-more c.args.graph.now c.args.map.now c.loop-array.array header (header - c.array_bytes-header.result)
-    c.array.result c.loop-array.offsets.items c.in_ok-push.new.self.items c.requires c.loop-array.invariant
+    c.array.result c.loop-array.offsets.items c.push.new.self.items c.requires c.loop-array.invariant
     c.array.ensures (c.in_ok-push.ensures.items ∙ ap (λ (y : ℤ). c.loop-array.offsets.items ++ y ∷ []) z)
     (omega (arith, room.1, c.array_bytes-header.ensures))

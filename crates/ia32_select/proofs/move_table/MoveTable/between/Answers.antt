@@ -10,10 +10,10 @@ pub returns-in-Some : goal.returns-in-Some
 returns-in-Some c =
     let ways : List (Stretch × Stretch) = c.self.inside.ways.items in
     c.on_way.ensures
-    ∙ (between-there c.as_slice-2.result.now ways c.args.point c.args.next c.in-Some.ways c.ways_at.result
+    ∙ (between-there c.as_slice-in-Some.result.now ways c.args.point c.args.next c.in-Some.ways c.ways_at.result
     (c.ways_at.ensures ∙ ap (λ (l : List (Stretch × Stretch)). slice_get l c.args.point) c.as_slice.ensures.value)
     c.in-Some.is
-    ∙ (ap (λ (l : List Insn). between_in (map (ways_in l) ways) c.args.point c.args.next) c.as_slice-2.ensures.value
+    ∙ (ap (λ (l : List Insn). between_in (map (ways_in l) ways) c.args.point c.args.next) c.as_slice-in-Some.ensures.value
     ∙ ap (λ (t : List Ways). between_in t c.args.point c.args.next) c.self.view_is))
 
 pub returns-in-None : goal.returns-in-None
