@@ -123,8 +123,7 @@ pub offsets-last : (flow : Flow) (places : PlaceMap) (count header : ℕ) (offse
 offsets-last flow places count header offsets e h =
     let past : length flow.arrays ≤ count = omega (arith, e) in
     let none : bytes_of_arrays (drop count flow.arrays) ≡ 0 = ap bytes_of_arrays (drop_of_length-le flow.arrays past) in
-    let is = h.header_is in
-    (
+    let is = h.header_is in (
       h.offsets_are ∙ ap (λ (n : ℕ). map (array_below flow places) (range_with_len 0 n)) e,
       omega (arith, is, none),
     )

@@ -73,8 +73,7 @@ is-last a b m s to e f g h =
     let more : length b ≡ length (a ++ m) = ap (λ (l : List Insn). length l) e in
     let long = length-append a m in
     let there : slice_range b s.start s.end ≡ m =
-    ap (λ (l : List Insn). slice_range l s.start s.end) e ∙ range-last a m s.start s.end g (h ∙ more) in
-    (
+    ap (λ (l : List Insn). slice_range l s.start s.end) e ∙ range-last a m s.start s.end g (h ∙ more) in (
       ap (λ (t : Option ℕ). (t, slice_range b s.start s.end)) f ∙ ap (λ (l : List Insn). (to, l)) there,
       (omega (arith, g, h, more, long), omega (arith, h)),
     )

@@ -45,14 +45,14 @@ IsMinded places point next vs v = IsIn v vs ⊎ Stays places point next v
 -- the moves of these variables, in order, each of another one
 pub record AreMovesOf (flow : Flow) (places : PlaceMap) (point next : ℕ) (vs : List ℕ) (moves : List Move) : Type 0
   where
-  pub each : AllZip (IsMoveOf flow places point next) vs moves
-  pub once : IsDistinct vs
+    pub each : AllZip (IsMoveOf flow places point next) vs moves
+    pub once : IsDistinct vs
 
 -- the moves of these variables, and all others stay
 pub record AreAllMoves (flow : Flow) (places : PlaceMap) (point next : ℕ) (vs : List ℕ) (moves : List Move) : Type 0
   where
-  pub moves_of : AreMovesOf flow places point next vs moves
-  pub all : (v : ℕ) → IsMinded places point next vs v
+    pub moves_of : AreMovesOf flow places point next vs moves
+    pub all : (v : ℕ) → IsMinded places point next vs v
 
 -- Every variable that was among the moving ones or stays is one of these, and so is this one.
 pub record Minds (places : PlaceMap) (point next v : ℕ) (old new : List ℕ) : Type 0 where

@@ -37,11 +37,7 @@ const NOWHERE: Stretch = Stretch {
 };
 
 /// Puts instructions last, as a stretch of all.
-fn add_stretch(
-    insns: &mut Vec<Insn>,
-    to: Option<u32>,
-    more: &[Insn],
-) -> Result<Stretch, NoMemory>
+fn add_stretch(insns: &mut Vec<Insn>, to: Option<u32>, more: &[Insn]) -> Result<Stretch, NoMemory>
     ensures { MatchResult result
         (λ stretch. (insns.new.items ≡ insns.old.items ++ more.now) × (stretch.to ≡ to)
         × (stretch.start ≡ length insns.old.items) × (stretch.end ≡ length insns.new.items))

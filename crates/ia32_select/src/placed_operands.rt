@@ -34,7 +34,13 @@ pub fn commuting(
         ++ commuting how (after_at site.now point to.now) (before_at site.now point first.now)
         (before_at site.now point second.now)) }
 {
-    emit_commuting(out, how, after(site, point, to), before(site, point, first), before(site, point, second))
+    emit_commuting(
+        out,
+        how,
+        after(site, point, to),
+        before(site, point, first),
+        before(site, point, second),
+    )
 }
 
 /// A difference of two variables.
@@ -74,7 +80,12 @@ pub fn product(
         ++ multiplying (after_at site.now point to.now) (before_at site.now point first.now)
         (before_at site.now point second.now)) }
 {
-    emit_product(out, after(site, point, to), before(site, point, first), before(site, point, second))
+    emit_product(
+        out,
+        after(site, point, to),
+        before(site, point, first),
+        before(site, point, second),
+    )
 }
 
 /// A quotient or a remainder of two variables: what a division leaves in EAX or EDX.
@@ -92,7 +103,13 @@ pub fn division(
         ++ dividing part (after_at site.now point to.now) (before_at site.now point first.now)
         (before_at site.now point second.now)) }
 {
-    emit_division(out, part, after(site, point, to), before(site, point, first), before(site, point, second))
+    emit_division(
+        out,
+        part,
+        after(site, point, to),
+        before(site, point, first),
+        before(site, point, second),
+    )
 }
 
 /// A shift of a variable by another.
@@ -110,7 +127,13 @@ pub fn shift(
         ++ shifting how (after_at site.now point to.now) (before_at site.now point first.now)
         (before_at site.now point count.now)) }
 {
-    emit_shift(out, how, after(site, point, to), before(site, point, first), before(site, point, count))
+    emit_shift(
+        out,
+        how,
+        after(site, point, to),
+        before(site, point, first),
+        before(site, point, count),
+    )
 }
 
 /// Whether two variables compare so.
@@ -128,7 +151,13 @@ pub fn set(
         ++ setting how (after_at site.now point to.now) (before_at site.now point first.now)
         (before_at site.now point second.now)) }
 {
-    emit_set(out, how, after(site, point, to), before(site, point, first), before(site, point, second))
+    emit_set(
+        out,
+        how,
+        after(site, point, to),
+        before(site, point, first),
+        before(site, point, second),
+    )
 }
 
 /// An element of an array to a variable.
@@ -146,7 +175,13 @@ pub fn load(
         ++ load_row bits (after_at site.now point to.now) (before_at site.now point array.now)
         (before_at site.now point index.now)) }
 {
-    emit_load(out, bits, after(site, point, to), before(site, point, array), before(site, point, index))
+    emit_load(
+        out,
+        bits,
+        after(site, point, to),
+        before(site, point, array),
+        before(site, point, index),
+    )
 }
 
 /// A variable's value to an element of an array.
@@ -164,7 +199,13 @@ pub fn store(
         ++ store_row bits (before_at site.now point array.now) (before_at site.now point index.now)
         (before_at site.now point value.now)) }
 {
-    emit_store(out, bits, before(site, point, array), before(site, point, index), before(site, point, value))
+    emit_store(
+        out,
+        bits,
+        before(site, point, array),
+        before(site, point, index),
+        before(site, point, value),
+    )
 }
 
 /// Makes every element of a frame array 0, by the loop of a point.
@@ -203,5 +244,10 @@ pub fn call(
         (map (before_at site.now point) arguments.now)) }
 {
     let locations = all_before(site, point, arguments.as_slice())?;
-    emit_call(out, any_after(site, point, to), function, locations.as_slice())
+    emit_call(
+        out,
+        any_after(site, point, to),
+        function,
+        locations.as_slice(),
+    )
 }

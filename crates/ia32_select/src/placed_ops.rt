@@ -20,7 +20,12 @@ use ia32_insn::{AluOp, Insn, Item, Reg32, ShiftOp};
 use pcc_base::NoMemory;
 
 /// The items of the op of a point.
-pub fn emit_op(out: &mut Vec<Item>, site: &PlacedSite<'_>, point: u32, op: &Op) -> Result<(), NoMemory>
+pub fn emit_op(
+    out: &mut Vec<Item>,
+    site: &PlacedSite<'_>,
+    point: u32,
+    op: &Op,
+) -> Result<(), NoMemory>
     requires point { HasPoint site.now point }
     requires few_words { words_of op.now < 2 ^ 29 }
     requires few_labels { loop_label (flow_of site.now) point < 2 ^ 32 }
@@ -34,7 +39,11 @@ pub fn emit_op(out: &mut Vec<Item>, site: &PlacedSite<'_>, point: u32, op: &Op) 
         Op::Low(to, from) => emit_low(out, after(site, point, to), before(site, point, from)),
         Op::Low16(to, from) => emit_half(out, after(site, point, to), before(site, point, from)),
         Op::Neg(to, from) => emit_negation(out, after(site, point, to), before(site, point, from)),
-        Op::Not(to, from) => emit_complement(out, after(site, point, to), before(site, point, from)),
+        Op::Not(to, from) => emit_complement(
+            out,
+            after(site, point, to),
+            before(site, point, from),
+        ),
         Op::Add(to, first, second) => commuting(out, site, point, AluOp::Add, to, first, second),
         Op::Sub(to, first, second) => difference(out, site, point, to, first, second),
         Op::Mul(to, first, second) => product(out, site, point, to, first, second),
@@ -46,7 +55,11 @@ pub fn emit_op(out: &mut Vec<Item>, site: &PlacedSite<'_>, point: u32, op: &Op) 
         Op::Div(to, first, second) => division(out, site, point, Reg32::Eax, to, first, second),
         Op::Rem(to, first, second) => division(out, site, point, Reg32::Edx, to, first, second),
         Op::Set(how, to, first, second) => set(out, site, point, *how, to, first, second),
-        Op::Frame(to, array) => emit_frame_array(out, after(site, point, to), array_at(site, *array)),
+        Op::Frame(to, array) => emit_frame_array(
+            out,
+            after(site, point, to),
+            array_at(site, *array),
+        ),
         Op::Static(to, object) => emit_static(out, after(site, point, to), *object),
         Op::Load(bits, to, array, index) => load(out, site, point, *bits, to, array, index),
         Op::Store(bits, array, index, from) => store(out, site, point, *bits, array, index, from),
@@ -55,10 +68,18 @@ pub fn emit_op(out: &mut Vec<Item>, site: &PlacedSite<'_>, point: u32, op: &Op) 
         Op::Clear(array) => clear(out, site, point, *array),
         Op::Param(to, word) => emit_param(out, after(site, point, to), *word),
         Op::Call(to, function, arguments) => call(out, site, point, to, *function, arguments),
-        Op::Putchar(to, from) => emit_putchar(out, after(site, point, to), before(site, point, from)),
+        Op::Putchar(to, from) => emit_putchar(
+            out,
+            after(site, point, to),
+            before(site, point, from),
+        ),
         Op::Getchar(to) => emit_getchar(out, after(site, point, to)),
         Op::Exit(status) => emit_exit(out, before(site, point, status)),
-        Op::Same(first, second) => emit_same(out, before(site, point, first), before(site, point, second)),
+        Op::Same(first, second) => emit_same(
+            out,
+            before(site, point, first),
+            before(site, point, second),
+        ),
         Op::Mark(_) | Op::Turn => emit(out, Insn::Nop),
         Op::Jump(block) => jump(out, site, point, *block),
         Op::Branch(how, first, second, taken, other) => branch(
