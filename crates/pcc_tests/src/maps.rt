@@ -1,15 +1,15 @@
 //! The whole text of a map, beside the image as GNU objdump disassembles it.
 
 use crate::expected::expect;
-use crate::runs::{expect_commands, files_with};
+use crate::runs::{expect_answer, expect_commands, files_with, run_line};
 
 /// A local that is declared, assigned, written and returned.
 const PROGRAM: &str = "int main(void){int x=70; x=x+1; putchar(x); return x+229;}";
 
-/// The program's map: `x` is at EBP - 20, the temporaries behind it have no place at a statement, and each statement is
-/// at a NOP of the image.
+/// The program's map: `x` is in EAX, and over the call of `putchar`, which takes that register, in EBX; the temporaries
+/// behind it stand at no statement, and each statement is at a NOP of the image.
 const MAP: &str = "pcc map 1
-function 0 main frame 140
+function 0 main frame 16
 var 0 2 x
 var 1 2 -
 var 2 2 -
@@ -41,14 +41,67 @@ var 27 2 -
 var 28 2 -
 var 29 2 -
 var 30 1 -
-point 1 0804803f mark 0
+block 0
+point 0 08048026 turn
+board bb bb bb bb pieces
 before
-point 3 08048047 mark 1
-before 0=[ebp-20]
-point 6 08048058 mark 2
-before 0=[ebp-20]
-point 8 08048065 mark 3
-before 0=[ebp-20]
+after
+spilled
+point 1 08048027 mark 0
+board bb bb bb bb pieces
+before
+after
+spilled
+point 2 08048028 const 0 70
+board bb bb bb bb pieces Z2:0
+before
+after 0=eax
+spilled
+point 3 0804802d mark 1
+board bb bb bb bb pieces Y2:0
+before 0=eax
+after 0=eax
+spilled
+point 4 0804802e const 7 1
+board bb bb bb bb pieces Y2:0 Z2:7
+before 0=eax
+after 0=eax 7=ebx
+spilled
+point 5 08048033 add 0 0 7
+board bb bb bb bb pieces X2:0 Z2:0 X2:7
+before 0=eax 7=ebx
+after 0=eax
+spilled
+point 6 08048035 mark 2
+board bb bb bb bb pieces Y2:0
+before 0=eax
+after 0=eax
+spilled
+point 7 08048038 putchar 2 0
+board uu bb uu uu pieces Y2:0
+before 0=ebx
+after 0=ebx 2=eax
+spilled
+point 8 0804803f mark 3
+board bb bb bb bb pieces Y2:0
+before 0=ebx
+after 0=ebx
+spilled
+point 9 08048040 const 7 229
+board bb bb bb bb pieces Y2:0 Z2:7
+before 0=ebx
+after 0=ebx 7=eax
+spilled
+point 10 08048045 add 2 0 7
+board bb bb bb bb pieces X2:0 Z2:2 X2:7
+before 0=ebx 7=eax
+after 2=ebx
+spilled
+point 11 08048047 return 2
+board bb bb bb bb pieces X2:2
+before 2=ebx
+after
+spilled
 end
 ";
 
@@ -58,29 +111,29 @@ const TEXT: usize = 4096;
 /// Offsets of the image's file, the bytes there, and what they spell.
 const PLACES: [(usize, &[u8], &str); 5] = [
     (
-        TEXT + 0x23,
-        b"\x8d\xa5\x74\xff\xff\xff",
-        "lea -0x8c(%ebp),%esp",
+        TEXT + 0x1d,
+        b"\x55\x89\xe5\x53\x56\x57\x8d\x65\xf0\x90\x90",
+        "push %ebp; mov %esp,%ebp; push %ebx; push %esi; push %edi; lea -0x10(%ebp),%esp; nop; nop",
     ),
     (
-        TEXT + 0x3f,
-        b"\x90\xc7\x45\xec\x46\x00\x00\x00",
-        "nop; movl $0x46,-0x14(%ebp)",
+        TEXT + 0x28,
+        b"\xb8\x46\x00\x00\x00\x90",
+        "mov $0x46,%eax; nop",
     ),
     (
-        TEXT + 0x47,
-        b"\x90\xc7\x45\xd0\x01\x00\x00\x00\x8b\x75\xec\x03\x75\xd0\x89\x75\xec",
-        "nop; movl $0x1,-0x30(%ebp); mov -0x14(%ebp),%esi; add -0x30(%ebp),%esi; mov %esi,-0x14(%ebp)",
+        TEXT + 0x2e,
+        b"\xbb\x01\x00\x00\x00\x01\xd8\x90",
+        "mov $0x1,%ebx; add %ebx,%eax; nop",
     ),
     (
-        TEXT + 0x58,
-        b"\x90\xff\x75\xec\xe8",
-        "nop; push -0x14(%ebp); call",
+        TEXT + 0x36,
+        b"\x89\xc3\x53\xe8\x16\x00\x00\x00\x5f\x90",
+        "mov %eax,%ebx; push %ebx; call; pop %edi; nop",
     ),
     (
-        TEXT + 0x65,
-        b"\x90\xc7\x45\xd0\xe5\x00\x00\x00",
-        "nop; movl $0xe5,-0x30(%ebp)",
+        TEXT + 0x40,
+        b"\xb8\xe5\x00\x00\x00\x01\xc3\x89\xd8\x8b\x5d\xfc",
+        "mov $0xe5,%eax; add %eax,%ebx; mov %ebx,%eax; mov -0x4(%ebp),%ebx",
     ),
 ];
 
@@ -107,4 +160,15 @@ fn maps_the_image(rt: HostRuntime) {
         let text = image.get(at..).unwrap_or(b"");
         expect(&rt, &text.starts_with(bytes), &true, spelling);
     }
+}
+
+/// `board` puts the map on the output, asks nothing of standard error, and writes no file.
+#[test]
+fn prints_the_map(rt: HostRuntime) {
+    let alloc = rt.alloc();
+    let mut files = files_with(&rt, alloc, PROGRAM, 0);
+    let answer = run_line(&rt, alloc, "board a.c", &mut files, 1);
+    expect_answer(&rt, &answer, MAP.as_bytes(), 0, "");
+    let is_written = files.content("a.map").is_some();
+    expect(&rt, &is_written, &false, "a.map");
 }
