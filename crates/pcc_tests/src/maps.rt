@@ -168,7 +168,7 @@ fn prints_the_map(rt: HostRuntime) {
     let alloc = rt.alloc();
     let mut files = files_with(&rt, alloc, PROGRAM, 0);
     let answer = run_line(&rt, alloc, "board a.c", &mut files, 1);
-    expect_answer(&rt, &answer, MAP.as_bytes(), 0, "");
+    expect_answer(&rt, &answer, MAP, 0, "", "board a.c");
     let is_written = files.content("a.map").is_some();
     expect(&rt, &is_written, &false, "a.map");
 }
