@@ -1,5 +1,5 @@
 -- The status of a command where nothing fails, from the report that it ends in.
-use Rattle.std.proofs.Common.{◌≡◌, ℕ, List, Option, None, sym, ap, ◌∙◌, subst, inl, inr, refl, arith}
+use Rattle.std.proofs.Common.{◌≡◌, ℕ, List, [], ◌∷◌, Option, None, sym, ap, ◌∙◌, subst, inl, inr, refl, arith}
 use Rattle.std.specs.Prelude.{◌⊎◌}
 use Rattle.pcc_base.specs.Counts.{Rose}
 use Rattle.pcc_base.specs.Outcome as outcome
@@ -24,6 +24,8 @@ use Rattle.pcc_driver.proofs.SourcesStatus.{refused_status, typed_status}
 use Rattle.pcc_driver.proofs.BoardStatus.{least_status, solve_status}
 use Rattle.pcc_driver.proofs.EvalStatus.{eval_status}
 use Rattle.pcc_driver.proofs.Causes.{own_status}
+use Rattle.pcc_driver.proofs.SelftestStatus.{selftest_status}
+use Rattle.pcc_driver.specs.Selftests.{step_limit, turn_limit}
 use Rattle.pcc_driver.specs.Answers.{AnswerPut, CommandTold, CompileTold, RunTold, RunGives, IsNoImage}
 use Rattle.pcc_driver.specs.Promises.{IsQuiet, TellsEnough, CompileStatus, RunStatus, HasStatus}
 use Rattle.ia32_machine.proofs.First.{first-one}
@@ -192,7 +194,7 @@ answer_status answer report old new cause told quiet = absurd told
 -- the report of a command has the status that the command has
 report_status : (command : Command) (report : Report) (old new : Outside) → HasCause report old.work new.work
     → CommandTold command old.work new.work report → TellsEnough command old.work → IsQuiet old new
-    → (status_of report ≡ 11) ⊎ HasStatus command old.work (status_of report)
+    → (status_of report ≡ 11) ⊎ HasStatus command old.work new.work (status_of report)
 report_status (commands.Compile name sources) report old new cause told f quiet =
     compile_status name sources old new report cause (told.0 f) quiet
 report_status (commands.Run steps image) report old new cause told enough quiet =
@@ -204,6 +206,8 @@ report_status (commands.Solve file) report old new cause told f quiet =
     solve_status (old.work.files.content file) report old new cause (told.3 f) quiet
 report_status (commands.Gen number) report old new cause told enough quiet =
     answer_status (generated number) report old new cause told.2 quiet
+report_status (commands.Selftest name number) report old new cause told f quiet =
+    selftest_status turn_limit step_limit name (generated number ∷ []) report old new cause told.1 f quiet
 report_status (commands.Least file) report old new cause told f quiet =
     least_status (old.work.files.content file) report old new cause (told.2 f) quiet
 report_status (commands.ManyFiles count) report old new cause told enough quiet =
@@ -215,12 +219,12 @@ report_status commands.Usage report old new cause told enough quiet =
 pub exact_status : (command : Command) (report : Report) (old new : Outside) (result : ℕ)
     → HasCause report old.work new.work → CommandTold command old.work new.work report
     → Ends command report old.err new.err result → TellsEnough command old.work → IsQuiet old new
-    → (result ≡ 11) ⊎ HasStatus command old.work result
+    → (result ≡ 11) ⊎ HasStatus command old.work new.work result
 exact_status command report old new result cause told ends enough quiet =
     elim (ends_status command report old.err new.err result ends quiet.errors) [
       | inl none ↦ inl none
       | inr same ↦ elim (report_status command report old new cause told enough quiet) [
         | inl none ↦ inl (same ∙ none)
-        | inr has ↦ inr (subst (λ (n : ℕ). HasStatus command old.work n) (sym same) has)
+        | inr has ↦ inr (subst (λ (n : ℕ). HasStatus command old.work new.work n) (sym same) has)
       ]
     ]

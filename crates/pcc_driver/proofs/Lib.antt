@@ -15,3 +15,7 @@ pub mod EvalStatus
 pub mod EvalTold
 pub mod BoardStatus
 pub mod Removing
+pub mod OneEnd
+pub mod Counting
+pub mod Selftesting
+pub mod SelftestStatus

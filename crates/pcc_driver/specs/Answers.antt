@@ -1,5 +1,5 @@
 -- What a command leaves behind and why, by cases over its report: impossible reports are refused.
-use Rattle.std.specs.Prelude.{◌≡◌, ◌≢◌, ◌<◌, ◌⊎◌, ℕ, suc, ◌+◌, List, ◌++◌, length, take, drop, Option, Some, None, ⊤}
+use Rattle.std.specs.Prelude.{◌≡◌, ◌≢◌, ◌<◌, ◌⊎◌, ℕ, suc, ◌+◌, List, [], ◌∷◌, ◌++◌, length, take, drop, Option, Some, None, ⊤}
 use Rattle.pcc_base.specs.Outcome as outcome
 use Rattle.pcc_base.specs.Outcome.{Outcome}
 use Rattle.pcc_outside.specs.declared.sink.WriteRefusal.{WriteRefusal}
@@ -17,11 +17,12 @@ use Rattle.c_tree.specs.Program.{Program}
 use Rattle.pcc_gen.specs.Generated.{generated}
 use Rattle.pcc_program.specs.Products.{IsImageOf}
 use Rattle.puzzle_solver.specs.Reading.{IsNoBoard}
-use Rattle.pcc_words.specs.Asked.{Command, Compile, Run, Eval, Solve, Gen, Least, ManyFiles, Usage, map_name}
+use Rattle.pcc_words.specs.Asked.{Command, Compile, Run, Eval, Solve, Gen, Selftest, Least, ManyFiles, Usage, map_name}
 use Rattle.pcc_driver.specs.Programs.{HaveTypedProgram, HaveNoProgram}
 use Rattle.pcc_driver.specs.Sources.{AreRead, Holds, IsTooLong}
 use Rattle.pcc_driver.specs.Ends.{IsUnlessMemory}
 use Rattle.pcc_driver.specs.Outside.{Files, Output, SameFiles, SameStreams, Work}
+pub use Rattle.pcc_driver.specs.Outside.{IsPut, OnlyFile}
 use Rattle.pcc_driver.specs.declared.report.Named.{Named}
 use Rattle.pcc_driver.specs.declared.report.Named.TheVariants.{Map, Image, Board}
 use Rattle.pcc_driver.specs.declared.report.Report.{Report}
@@ -29,13 +30,10 @@ use Rattle.pcc_driver.specs.declared.report.Report.TheVariants as reports
 use Rattle.pcc_driver.specs.Evaluations.{EvalTold, SourcesTold}
 use Rattle.pcc_driver.specs.Headline.{IsCompiled}
 use Rattle.pcc_driver.specs.Removals.{IsLargeBoard, IsRemovalOf}
+use Rattle.pcc_driver.specs.Selftests.{SelftestTold, step_limit, turn_limit}
 use Rattle.pcc_driver.specs.Solutions.{IsSolution}
 
 -- ---- compile
-
--- no file has changed but this one
-abbrev pub OnlyFile : List ℕ → Files → Files → Type 0
-OnlyFile name old new = (other : List ℕ) → other ≢ name → new other ≡ old other
 
 -- NAME.map holds the text of the map of an image that does what the sources' program does; NAME, and no other file, may
 -- have changed
@@ -77,6 +75,14 @@ GivesNoMachine image reports.NotImage = (segments : Segments) → Loads image se
 GivesNoMachine image reports.NoMemory = ⊤
 GivesNoMachine image _ = ⊥
 
+-- the reports of writing two files
+abbrev pub IsOfWrites : Report → Type 0
+IsOfWrites reports.Compiled = ⊤
+IsOfWrites (reports.WriteFault Map) = ⊤
+IsOfWrites (reports.WriteFault Image) = ⊤
+IsOfWrites reports.NoMemory = ⊤
+IsOfWrites _ = ⊥
+
 -- two files are written, the map's and then the image's; no other file has changed
 abbrev pub WritesTold : List ℕ → List ℕ → List ℕ → List ℕ → Files → Files → Report → Type 0
 WritesTold map_name name map_bytes image old new reports.Compiled =
@@ -92,10 +98,6 @@ WritesTold map_name name map_bytes image old new reports.NoMemory =
 WritesTold map_name name map_bytes image old new _ = ⊥
 
 -- ---- run
-
--- where the output tells what it took, these bytes were put on it
-abbrev pub IsPut : Output → Output → List ℕ → Type 0
-IsPut old new bytes = old.tells → new.taken ≡ old.taken ++ bytes
 
 -- so many steps of the image with these bytes have this end
 abbrev pub RunGives : ℕ → Work → Work → outcome.End → List ℕ → Type 0
@@ -238,6 +240,9 @@ CommandTold (Solve file) old new report =
 CommandTold (Gen number) old new report =
     (old.files.tells → SameFiles old.files.content new.files.content) × (new.input.left ≡ old.input.left)
     × AnswerPut (generated number) old.out new.out report
+CommandTold (Selftest name number) old new report =
+    (new.input.left ≡ old.input.left)
+    × SelftestTold turn_limit step_limit name (generated number ∷ []) old.files new.files old.out new.out report
 CommandTold (Least file) old new report =
     (old.files.tells → SameFiles old.files.content new.files.content) × (new.input.left ≡ old.input.left)
     × (old.files.tells → LeastTold (old.files.content file) old.out new.out report)

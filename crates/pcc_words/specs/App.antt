@@ -65,6 +65,9 @@ solve = with_rule (new_app (codes "solve")) (wanted (codes "FILE"))
 abbrev pub generate : App
 generate = with_rule (new_app (codes "gen")) seed
 
+abbrev pub selftest : App
+selftest = with_rule (with_rule (new_app (codes "selftest")) name) seed
+
 abbrev pub least : App
 least = with_rule (new_app (codes "least")) (wanted (codes "FILE"))
 
@@ -90,5 +93,8 @@ with_solve = with_subcommand with_eval solve.top
 abbrev pub with_generate : App
 with_generate = with_subcommand with_solve generate.top
 
+abbrev pub with_selftest : App
+with_selftest = with_subcommand with_generate selftest.top
+
 abbrev pub app : App
-app = with_subcommand with_generate least.top
+app = with_subcommand with_selftest least.top

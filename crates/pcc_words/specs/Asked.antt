@@ -19,6 +19,8 @@ pub data Command : Type 0 where
   Solve : (file : List ℕ) → Command
   -- put the generated program of this number on the output
   Gen : (number : ℕ) → Command
+  -- evaluate the generated program of this number, compile it, write NAME.map and NAME, and run what was written
+  Selftest : (name : List ℕ) (number : ℕ) → Command
   -- remove the fewest pieces of the board of the file, so that the others have a legal placement
   Least : (file : List ℕ) → Command
   -- there are so many sources, more than are read
@@ -80,6 +82,14 @@ abbrev pub gen_asked : Option Text → Command
 gen_asked None = Usage
 gen_asked (Some number) = gen_command (number_of u32_max number)
 
+abbrev pub selftest_command : List ℕ → Option ℕ → Command
+selftest_command name None = Usage
+selftest_command name (Some n) = Selftest name n
+
+abbrev pub selftest_asked : Option Text → Option Text → Command
+selftest_asked (Some name) (Some number) = selftest_command name (number_of u32_max number)
+selftest_asked _ _ = Usage
+
 abbrev pub least_asked : Option Text → Command
 least_asked None = Usage
 least_asked (Some file) = Least file
@@ -92,6 +102,8 @@ asked_by command rows =
     else if bytes_eq command (codes "eval") then eval_asked (first_of (codes "N") rows) (all_of (codes "SRC") rows)
     else if bytes_eq command (codes "solve") then solve_asked (first_of (codes "FILE") rows)
     else if bytes_eq command (codes "gen") then gen_asked (first_of (codes "N") rows)
+    else if bytes_eq command (codes "selftest") then
+      selftest_asked (first_of (codes "NAME") rows) (first_of (codes "N") rows)
     else if bytes_eq command (codes "least") then least_asked (first_of (codes "FILE") rows) else Usage
 
 abbrev pub asked_in : Option (Text × List Row) → Command

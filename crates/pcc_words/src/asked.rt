@@ -35,6 +35,8 @@ ghost use Rattle.pcc_words.specs.Asked.{
   number_of,
   run_asked,
   run_command,
+  selftest_asked,
+  selftest_command,
   solve_asked,
   Usage,
 };
@@ -76,6 +78,7 @@ Commands:
   pcc eval [--turns N] SRC..  evaluates C files
   pcc solve FILE              prints a legal placement of a board's pieces, or `none`
   pcc gen N                   prints the generated C program of the number N
+  pcc selftest -o NAME N      evaluates and compiles that program, and runs its image, NAME
   pcc least FILE              prints the fewest pieces without which a board is solvable, and places the others
 ";
 
@@ -240,6 +243,29 @@ fn gen_asked<'a>(alloc: Global, matches: &ArgMatches<'a>) -> Result<Command<'a>,
     }
 }
 
+/// `selftest`, where the number has 32 bits.
+#[tactic(auto, using(crate::proofs::Numbers::word_is, crate::proofs::Numbers::no_word))]
+fn selftest_of<'a>(alloc: Global, name: &'a str, number: &str) -> Result<Command<'a>, NoMemory>
+    ensures { IfOk result (λ c. meaning c ≡ selftest_command name.now (number_of u32_max number.now)) }
+{
+    match number.parse::<u32>() {
+        Ok(number) => Ok(Command::Selftest { name, number }),
+        Err(_) => usage(alloc, "N is a number of 32 bits"),
+    }
+}
+
+/// The matches of `selftest`.
+#[tactic(auto, using(crate::proofs::Rows::str_row, crate::proofs::Rows::strs_row))]
+fn selftest_asked<'a>(alloc: Global, matches: &ArgMatches<'a>) -> Result<Command<'a>, NoMemory>
+    ensures { IfOk result (λ c. meaning c ≡ selftest_asked (first_of (codes "NAME") (rows_of (found_of matches.now)))
+        (first_of (codes "N") (rows_of (found_of matches.now)))) }
+{
+    match (matches.get_str("NAME"), matches.get_str("N")) {
+        (Some(name), Some(number)) => selftest_of(alloc, name, number),
+        _ => usage(alloc, "NAME and N are wanted"),
+    }
+}
+
 /// The matches of `least`.
 #[tactic(auto, using(crate::proofs::Rows::str_row, crate::proofs::Rows::strs_row))]
 fn least_asked<'a>(alloc: Global, matches: &ArgMatches<'a>) -> Result<Command<'a>, NoMemory>
@@ -265,6 +291,7 @@ fn asked_by<'a>(
         "eval" => eval_asked(alloc, matches),
         "solve" => solve_asked(alloc, matches),
         "gen" => gen_asked(alloc, matches),
+        "selftest" => selftest_asked(alloc, matches),
         "least" => least_asked(alloc, matches),
         _ => usage(alloc, "a command is wanted"),
     }

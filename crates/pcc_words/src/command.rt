@@ -26,6 +26,11 @@ pub enum Command<'a> {
     Gen {
         number: u32,
     },
+    /// `selftest -o NAME N`: evaluate and compile the generated program of the number, and run its image, NAME.
+    Selftest {
+        name: &'a str,
+        number: u32,
+    },
     /// `least FILE`: remove the fewest pieces of the board of the file.
     Least {
         file: &'a str,
