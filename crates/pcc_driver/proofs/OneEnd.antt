@@ -1,5 +1,6 @@
 -- What is listed, or shown of an image by a map, changes no end.
-use Rattle.std.proofs.Common.{◌≡◌, ◌≤◌, ◌+◌, ◌-◌, ℕ, zero, suc, List, [], Bool, true, false, Option, Some, None, refl, sym, ap}
+use Rattle.std.proofs.lemmas.List.Elements.{All-nil}
+use Rattle.std.proofs.Common.{◌≡◌, ◌≤◌, ◌<◌, ◌+◌, ◌-◌, ℕ, zero, suc, List, [], Bool, true, false, Option, Some, None, refl, sym, ap}
 use Rattle.std.proofs.Common.{◌∙◌, subst, arith, tt}
 use Rattle.std.specs.Prelude.{option_map}
 use Rattle.std.proofs.lemmas.Option.{same_Some, none-some}
@@ -144,7 +145,7 @@ pub ends-as : (program : Program) (map : Map) (image : List ℕ) (end : End) →
     → WellTyped program → MapListsLocals → HasEnd program → (end ≡ Goes → ⊥) → EndsSo image end
     → (status : ℕ) × (end ≡ outcome.Ended status)
 ends-as program map image end is typed lists (turns, status, ended) stays (steps, o, (s, first, run), o_ends) =
-    let (m, many, (t, again, shown)) = is.correct [] turns tt in
+    let (m, many, (t, again, shown)) = is.correct [] turns (All-nil (λ (byte : ℕ). byte < 256)) in
     let quiet = unseen (visits_of map) m t _ shown in
     let same : t ≡ s = first-one image [] t s again first in
     let alike = sources-alike program is.belongs.code.program (listed map) [] turns is.belongs.lowered.keeps

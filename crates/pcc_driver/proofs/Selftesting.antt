@@ -1,7 +1,9 @@
 -- What the steps of `selftest` leave is what its report tells.
-use Rattle.std.proofs.Common.{◌≡◌, ◌≢◌, ◌++◌, ℕ, List, [], Some, ap, sym, ◌∙◌, append-nil, append_assoc, inl, inr, refl, take}
+use Rattle.std.proofs.lemmas.List.Elements.{All-nil}
+use Rattle.std.proofs.Common.{◌≡◌, ◌≢◌, ◌<◌, ◌++◌, ℕ, List, [], Some, ap, sym, ◌∙◌, append-nil, append_assoc, inl, inr, refl, take}
 use Rattle.std.proofs.Common.{subst, tt}
 use Rattle.pcc_base.specs.Outcome as outcome
+use Rattle.pcc_base.specs.declared.run.Trap.{Trap}
 use Rattle.pcc_outside.specs.Files.{StoreCounts}
 use Rattle.pcc_outside.specs.Streams.{SinkCounts}
 use Rattle.c_eval.specs.Runs.{EvalTold}
@@ -35,17 +37,23 @@ pub evaluated_line : (p : Program) (turns status : ℕ) (left left' taken bytes 
     → IsLineOf turns p line
 unfolding EvalTold
 evaluated_line p turns status left left' taken bytes line none empty told is =
-    rw none at told (rw empty at told (status, told.0, is ∙ ap (λ (w : List ℕ). eval_line w status) told.2))
+    let there : EvalTold p turns [] left' taken bytes (evaluation.Ended status) =
+    subst (λ (l : List ℕ). EvalTold p turns l left' taken bytes (evaluation.Ended status)) none told in
+    let gives : EvalTold p turns [] left' [] bytes (evaluation.Ended status) =
+    subst (λ (t : List ℕ). EvalTold p turns [] left' t bytes (evaluation.Ended status)) empty there in
+    (status, gives.0, is ∙ ap (λ (w : List ℕ). eval_line w status) gives.2)
 
-pub evaluated_trap : (p : Program) (turns : ℕ) (left left' taken bytes : List ℕ) (trap : _) → left ≡ []
+pub evaluated_trap : (p : Program) (turns : ℕ) (left left' taken bytes : List ℕ) (trap : Trap) → left ≡ []
     → EvalTold p turns left left' taken bytes (evaluation.Trapped trap) → GivesNoLine turns p (reports.Trapped trap)
 unfolding EvalTold
-evaluated_trap p turns left left' taken bytes trap none told = rw none at told (told.0)
+evaluated_trap p turns left left' taken bytes trap none told =
+    (subst (λ (l : List ℕ). EvalTold p turns l left' taken bytes (evaluation.Trapped trap)) none told).0
 
 pub evaluated_spent : (p : Program) (turns : ℕ) (left left' taken bytes : List ℕ) → left ≡ []
     → EvalTold p turns left left' taken bytes evaluation.TurnsSpent → GivesNoLine turns p (reports.BudgetSpent turns)
 unfolding EvalTold
-evaluated_spent p turns left left' taken bytes none told = rw none at told (refl, told.0)
+evaluated_spent p turns left left' taken bytes none told =
+    (refl, (subst (λ (l : List ℕ). EvalTold p turns l left' taken bytes evaluation.TurnsSpent) none told).0)
 
 -- ---- up to the first line
 
@@ -170,7 +178,7 @@ image_tested steps name texts p map image old new out out' (reports.BudgetSpent 
 image_tested steps name texts p map image old new out out' reports.NoMemory is typed lists ends stands put =
     (λ t. put.1 t ∙ sym (append-nil out.taken), λ t. inr (inr (stands t).0))
 image_tested steps name texts p map image old new out out' reports.NotImage is typed lists ends stands put =
-    let first = (is.correct [] 0 tt).2.1 in
+    let first = (is.correct [] 0 (All-nil (λ (byte : ℕ). byte < 256))).2.1 in
     absurd (put.0 first.0 first.1)
 image_tested steps name texts p map image old new out out' (reports.Trapped trap) is typed lists ends stands put =
     let (status, e) = ends-as p map image (outcome.Trapped trap) is typed lists ends
