@@ -1,11 +1,11 @@
 -- The texts of generated programs are short.
 use Rattle.std.specs.List.{AllByRecursion}
-use Rattle.std.proofs.Common.{◌<◌, ◌≤◌, ◌+◌, ◌*◌, ◌==◌, ℕ, zero, suc, Bool, true, false, List, [], ◌∷◌, ◌++◌, codes, decimal}
-use Rattle.std.proofs.Common.{arith, get_or, if◌then◌else◌, length, length-append, nat_lt, tt}
+use Rattle.std.proofs.Common.{◌<◌, ◌≤◌, ◌+◌, ◌*◌, ◌==◌, ℕ, zero, suc, Bool, true, false, List, [], ◌∷◌, ◌++◌, codes}
+use Rattle.std.proofs.Common.{arith, get_or, if◌then◌else◌, length, length-append, nat_lt}
 use Rattle.std.proofs.lemmas.Fmt.{length-decimal-le_succ}
 use Rattle.pcc_gen.specs.Generated.{after_function, after_statement, call, calls, closing, draw, function, functions}
 use Rattle.pcc_gen.specs.Generated.{after_statements, generated, main_function, opening, operation, operators, statement}
-use Rattle.pcc_gen.specs.Generated.{next, statements, variable}
+use Rattle.pcc_gen.specs.Generated.{next, statements}
 
 -- the numbers that are drawn are small
 small-thousand : (x : ℕ) → draw 1000 x < 1000
@@ -29,7 +29,9 @@ short-if true most x y hx hy = hx
 short-if false most x y hx hy = hy
 
 short-operator : (q : ℕ) → length (get_or operators q []) ≤ 2
-short-operator q = short-at 2 operators q (omega arith, omega arith, omega arith, omega arith, omega arith, omega arith, omega arith, omega arith, tt)
+short-operator q =
+    short-at 2 operators q (omega arith, (omega arith, (omega arith, (omega arith, (omega arith, (omega arith, (omega arith,
+    (omega arith, tt))))))))
 
 short-operation : (q x : ℕ) → length (operation q x) ≤ 4
 short-operation q x =
