@@ -1,5 +1,5 @@
 -- The steps of the run of an image, counted.
-use Rattle.std.proofs.Common.{◌≡◌, ◌<◌, ℕ, suc, List, [], refl, sym, ap, ◌∙◌, subst, arith, tt}
+use Rattle.std.proofs.Common.{◌≡◌, ◌<◌, ℕ, suc, List, [], refl, sym, ap, ◌∙◌, subst, arith}
 use Rattle.pcc_base.specs.Outcome as outcome
 use Rattle.pcc_base.specs.Outcome.{Goes, Outcome}
 use Rattle.elf_image.specs.Segments.{Segments, Loads}

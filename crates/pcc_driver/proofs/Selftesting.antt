@@ -1,7 +1,7 @@
 -- What the steps of `selftest` leave is what its report tells.
 use Rattle.std.proofs.lemmas.List.Elements.{All-nil}
 use Rattle.std.proofs.Common.{◌≡◌, ◌≢◌, ◌<◌, ◌++◌, ℕ, List, [], Some, ap, sym, ◌∙◌, append-nil, append_assoc, inl, inr, refl, take}
-use Rattle.std.proofs.Common.{subst, tt}
+use Rattle.std.proofs.Common.{subst}
 use Rattle.pcc_base.specs.Outcome as outcome
 use Rattle.pcc_base.specs.declared.run.Trap.{Trap}
 use Rattle.pcc_outside.specs.Files.{StoreCounts}
