@@ -39,6 +39,8 @@ many_told (commands.Eval turns sources) old new tokens told = λ f.
     let (texts, are, above) = (told.1 f).1 in (texts, are, (ManyTokens, above))
 many_told (commands.Gen seed) old new tokens told = absurd told.2
 many_told (commands.Least file) old new tokens told = λ f. absurd (told.2 f)
+many_told (commands.Board sources) old new tokens told = λ f.
+    let (texts, are, above) = (told.2 f).0.1 in (texts, are, (ManyTokens, above))
 many_told (commands.ManyFiles count) old new tokens told = tt
 many_told commands.Usage old new tokens told = absurd (no_limit (reports.TooManyTokens tokens) old new told refl)
 
@@ -53,6 +55,8 @@ arrays_told (commands.Eval turns sources) old new bytes told = λ f.
     let (texts, are, above) = told.1 f in (texts, are, (LargeArrays bytes, above))
 arrays_told (commands.Gen seed) old new bytes told = absurd told.2
 arrays_told (commands.Least file) old new bytes told = λ f. absurd (told.2 f)
+arrays_told (commands.Board sources) old new bytes told = λ f.
+    let (texts, are, above) = (told.2 f).0 in (texts, are, (LargeArrays bytes, above))
 arrays_told (commands.ManyFiles count) old new bytes told = tt
 arrays_told commands.Usage old new bytes told = absurd (no_limit (reports.LargeArrays bytes) old new told refl)
 
@@ -67,6 +71,8 @@ frame_told (commands.Eval turns sources) old new function bytes told = λ f.
     let (texts, are, above) = told.1 f in (texts, are, (LargeFrame function.items bytes, above))
 frame_told (commands.Gen seed) old new function bytes told = absurd told.2
 frame_told (commands.Least file) old new function bytes told = λ f. absurd (told.2 f)
+frame_told (commands.Board sources) old new function bytes told = λ f.
+    let (texts, are, above) = (told.2 f).0 in (texts, are, (LargeFrame function.items bytes, above))
 frame_told (commands.ManyFiles count) old new function bytes told = tt
 frame_told commands.Usage old new function bytes told =
     absurd (no_limit (reports.LargeFrame function bytes) old new told refl)
@@ -80,6 +86,7 @@ files_told (commands.Solve file) old new count told = absurd told.0
 files_told (commands.Eval turns sources) old new count told = λ f. absurd (told.1 f)
 files_told (commands.Gen seed) old new count told = absurd told.2
 files_told (commands.Least file) old new count told = λ f. absurd (told.2 f)
+files_told (commands.Board sources) old new count told = λ f. absurd (told.2 f).0
 files_told (commands.ManyFiles number) old new count told = tt
 files_told commands.Usage old new count told = absurd (no_limit (reports.TooManyFiles count) old new told refl)
 
@@ -93,6 +100,7 @@ board_told (commands.Eval turns sources) old new areas pieces told = λ f. absur
 board_told (commands.Gen seed) old new areas pieces told = absurd told.2
 board_told (commands.Least file) old new areas pieces told = λ f.
     let (text, held, small, large) = (told.2 f).0 in (text, held, small, (areas, pieces, large))
+board_told (commands.Board sources) old new areas pieces told = λ f. absurd (told.2 f).0
 board_told (commands.ManyFiles count) old new areas pieces told = tt
 board_told commands.Usage old new areas pieces told =
     absurd (no_limit (reports.LargeBoard areas pieces) old new told refl)

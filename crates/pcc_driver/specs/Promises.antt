@@ -8,7 +8,7 @@ use Rattle.ia32_machine.specs.First.{First}
 use Rattle.pcc_driver.specs.Evaluations.{EvalStatus}
 use Rattle.pcc_driver.specs.Answers.{IsNoImage}
 use Rattle.puzzle_solver.specs.Reading.{IsNoBoard}
-use Rattle.pcc_words.specs.Asked.{Command, Compile, Run, Eval, Solve, Gen, Least, ManyFiles, Usage}
+use Rattle.pcc_words.specs.Asked.{Command, Compile, Run, Eval, Solve, Gen, Least, Board, ManyFiles, Usage}
 use Rattle.pcc_driver.specs.Outside.{Files, Outside, Store, Work}
 use Rattle.pcc_driver.specs.Reports.{end_status}
 use Rattle.pcc_driver.specs.Programs.{SourcesStatus, Excess, Exceed}
@@ -24,7 +24,7 @@ pub record IsQuiet (old new : Outside) : Type 0 where
   pub output : Rose old.work.out.counts.faults new.work.out.counts.faults → ⊥
   pub errors : Rose old.err.counts.faults new.err.counts.faults → ⊥
 
--- the status of `compile` for what the files hold: every typed program within the limits is compiled
+-- the status of `compile` and of `board` for what the files hold: every typed program within the limits is compiled
 abbrev pub CompileStatus : Files → List (List ℕ) → ℕ → Type 0
 CompileStatus files sources status = SourcesStatus files sources (λ p. status ≡ 0) status
 
@@ -62,6 +62,7 @@ HasStatus (Eval turns sources) old status = EvalStatus turns old.input.left old.
 HasStatus (Solve file) old status = SolveStatus (old.files.content file) status
 HasStatus (Gen number) old status = status ≡ 0
 HasStatus (Least file) old status = LeastStatus (old.files.content file) status
+HasStatus (Board sources) old status = CompileStatus old.files.content sources status
 HasStatus (ManyFiles count) old status = status ≡ 3
 HasStatus Usage old status = status ≡ 2
 
@@ -74,6 +75,7 @@ TellsEnough (Eval turns sources) old = old.files.tells × old.input.tells × old
 TellsEnough (Solve file) old = old.files.tells
 TellsEnough (Gen number) old = ⊤
 TellsEnough (Least file) old = old.files.tells
+TellsEnough (Board sources) old = old.files.tells
 TellsEnough (ManyFiles count) old = ⊤
 TellsEnough Usage old = ⊤
 
@@ -90,6 +92,7 @@ LimitCause (Solve file) files = ⊥
 LimitCause (Gen number) files = ⊥
 LimitCause (Least file) files =
     files.tells → Holds (files.content file) (λ text. (n m : ℕ) × IsLargeBoard n m text)
+LimitCause (Board sources) files = files.tells → HoldAll files.content sources AreAboveLimit
 LimitCause (ManyFiles count) files = ⊤
 LimitCause Usage files = ⊥
 

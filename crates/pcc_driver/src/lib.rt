@@ -10,6 +10,7 @@
 #![tactic(auto)]
 
 mod answered;
+mod board;
 mod compile;
 mod evaluated;
 mod finished;
