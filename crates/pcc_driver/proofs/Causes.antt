@@ -43,6 +43,8 @@ many_told (commands.Selftest name number) old new tokens told = elim told.1 [
   | inr tested ↦ absurd tested.2
 ]
 many_told (commands.Least file) old new tokens told = λ f. absurd (told.2 f)
+many_told (commands.Board sources) old new tokens told = λ f.
+    let (texts, are, above) = (told.2 f).0.1 in (texts, are, (ManyTokens, above))
 many_told (commands.ManyFiles count) old new tokens told = tt
 many_told commands.Usage old new tokens told = absurd (no_limit (reports.TooManyTokens tokens) old new told refl)
 
@@ -61,6 +63,8 @@ arrays_told (commands.Selftest name number) old new bytes told = elim told.1 [
   | inr tested ↦ absurd tested.2
 ]
 arrays_told (commands.Least file) old new bytes told = λ f. absurd (told.2 f)
+arrays_told (commands.Board sources) old new bytes told = λ f.
+    let (texts, are, above) = (told.2 f).0 in (texts, are, (LargeArrays bytes, above))
 arrays_told (commands.ManyFiles count) old new bytes told = tt
 arrays_told commands.Usage old new bytes told = absurd (no_limit (reports.LargeArrays bytes) old new told refl)
 
@@ -79,6 +83,8 @@ frame_told (commands.Selftest name number) old new function bytes told = elim to
   | inr tested ↦ absurd tested.2
 ]
 frame_told (commands.Least file) old new function bytes told = λ f. absurd (told.2 f)
+frame_told (commands.Board sources) old new function bytes told = λ f.
+    let (texts, are, above) = (told.2 f).0 in (texts, are, (LargeFrame function.items bytes, above))
 frame_told (commands.ManyFiles count) old new function bytes told = tt
 frame_told commands.Usage old new function bytes told =
     absurd (no_limit (reports.LargeFrame function bytes) old new told refl)
@@ -96,6 +102,7 @@ files_told (commands.Selftest name number) old new count told = elim told.1 [
   | inr tested ↦ absurd tested.2
 ]
 files_told (commands.Least file) old new count told = λ f. absurd (told.2 f)
+files_told (commands.Board sources) old new count told = λ f. absurd (told.2 f).0
 files_told (commands.ManyFiles number) old new count told = tt
 files_told commands.Usage old new count told = absurd (no_limit (reports.TooManyFiles count) old new told refl)
 
@@ -113,6 +120,7 @@ board_told (commands.Selftest name number) old new areas pieces told = elim told
 ]
 board_told (commands.Least file) old new areas pieces told = λ f.
     let (text, held, small, large) = (told.2 f).0 in (text, held, small, (areas, pieces, large))
+board_told (commands.Board sources) old new areas pieces told = λ f. absurd (told.2 f).0
 board_told (commands.ManyFiles count) old new areas pieces told = tt
 board_told commands.Usage old new areas pieces told =
     absurd (no_limit (reports.LargeBoard areas pieces) old new told refl)

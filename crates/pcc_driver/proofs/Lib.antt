@@ -5,7 +5,8 @@ pub mod SourcesTold
 pub mod Causes
 pub mod Exact
 pub mod Files
-pub mod Ready
+pub mod Mapping
+mod Ready
 pub mod Running
 pub mod Solving
 pub mod CommandTold

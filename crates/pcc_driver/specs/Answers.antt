@@ -18,7 +18,8 @@ use Rattle.pcc_gen.specs.Generated.{generated}
 use Rattle.pcc_program.specs.Products.{IsImageOf}
 use Rattle.puzzle_solver.specs.Reading.{IsNoBoard}
 use Rattle.pcc_words.specs.Asked.{Command, Compile, Run, Eval, Solve, Gen, Selftest, Least, ManyFiles, Usage, map_name}
-use Rattle.pcc_driver.specs.Programs.{HaveTypedProgram, HaveNoProgram}
+use Rattle.pcc_words.specs.Asked.{Board as BoardOf}
+use Rattle.pcc_driver.specs.Programs.{HaveTypedProgram, HaveNoProgram, HoldProgram}
 use Rattle.pcc_driver.specs.Sources.{AreRead, Holds, IsTooLong}
 use Rattle.pcc_driver.specs.Ends.{IsUnlessMemory}
 use Rattle.pcc_driver.specs.Outside.{Files, Output, SameFiles, SameStreams, Work}
@@ -214,6 +215,27 @@ GivesNoRemoval text report = GivesNoAnswer text report
 abbrev pub LeastTold : Option (List ℕ) → Output → Output → Report → Type 0
 LeastTold content old new report = BoardTold IsRemovalOf IsLargeBoard content old new report
 
+-- ---- board
+
+-- the text of a map of an image that does what the program does was put, or what the report says of that
+abbrev pub MapPut : Output → Output → Report → Program → Type 0
+MapPut old new report program =
+    (map : maps.Map) × (image : List ℕ) × IsImageOf program map image × AnswerPut (map_text map) old new report
+
+-- what the report says of the program's map: it was put, or where that failed a prefix of it, or nothing
+abbrev pub ProgramPut : Output → Output → Report → Program → Type 0
+ProgramPut old new reports.Answered program = MapPut old new reports.Answered program
+ProgramPut old new reports.OutputFault program = MapPut old new reports.OutputFault program
+ProgramPut old new reports.NoMemory program = old.tells → new.taken ≡ old.taken
+ProgramPut old new _ program = ⊥
+
+-- the report of `board` on files that are told; and what was put on the output where that tells
+abbrev pub MapTold : Files → List (List ℕ) → Output → Output → Report → Type 0
+MapTold files sources old new reports.Answered = HoldProgram files sources (MapPut old new reports.Answered)
+MapTold files sources old new reports.OutputFault = HoldProgram files sources (MapPut old new reports.OutputFault)
+MapTold files sources old new reports.NoMemory = old.tells → new.taken ≡ old.taken
+MapTold files sources old new report = HaveNoProgram files sources report × (new.taken ≡ old.taken)
+
 -- ---- every command
 
 -- words that ask for nothing have this report, and nothing is done
@@ -246,5 +268,8 @@ CommandTold (Selftest name number) old new report =
 CommandTold (Least file) old new report =
     (old.files.tells → SameFiles old.files.content new.files.content) × (new.input.left ≡ old.input.left)
     × (old.files.tells → LeastTold (old.files.content file) old.out new.out report)
+CommandTold (BoardOf sources) old new report =
+    (old.files.tells → SameFiles old.files.content new.files.content) × (new.input.left ≡ old.input.left)
+    × (old.files.tells → MapTold old.files.content sources old.out new.out report)
 CommandTold (ManyFiles count) old new report = NothingDone (reports.TooManyFiles count) old new report
 CommandTold Usage old new report = NothingDone reports.Usage old new report

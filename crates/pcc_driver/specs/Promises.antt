@@ -9,7 +9,7 @@ use Rattle.pcc_driver.specs.Evaluations.{EvalStatus}
 use Rattle.pcc_driver.specs.Answers.{IsNoImage}
 use Rattle.puzzle_solver.specs.Reading.{IsNoBoard}
 use Rattle.pcc_gen.specs.Generated.{generated}
-use Rattle.pcc_words.specs.Asked.{Command, Compile, Run, Eval, Solve, Gen, Selftest, Least, ManyFiles, Usage}
+use Rattle.pcc_words.specs.Asked.{Command, Compile, Run, Eval, Solve, Gen, Selftest, Least, Board, ManyFiles, Usage}
 use Rattle.pcc_driver.specs.Outside.{Files, Outside, Store, Work}
 use Rattle.pcc_driver.specs.Reports.{end_status}
 use Rattle.pcc_driver.specs.Programs.{SourcesStatus, Excess, Exceed}
@@ -26,7 +26,7 @@ pub record IsQuiet (old new : Outside) : Type 0 where
   pub output : Rose old.work.out.counts.faults new.work.out.counts.faults → ⊥
   pub errors : Rose old.err.counts.faults new.err.counts.faults → ⊥
 
--- the status of `compile` for what the files hold: every typed program within the limits is compiled
+-- the status of `compile` and of `board` for what the files hold: every typed program within the limits is compiled
 abbrev pub CompileStatus : Files → List (List ℕ) → ℕ → Type 0
 CompileStatus files sources status = SourcesStatus files sources (λ p. status ≡ 0) status
 
@@ -67,6 +67,7 @@ HasStatus (Gen number) old new status = status ≡ 0
 HasStatus (Selftest name number) old new status =
     SelftestStatus turn_limit step_limit name (generated number ∷ []) new.files.content status
 HasStatus (Least file) old new status = LeastStatus (old.files.content file) status
+HasStatus (Board sources) old new status = CompileStatus old.files.content sources status
 HasStatus (ManyFiles count) old new status = status ≡ 3
 HasStatus Usage old new status = status ≡ 2
 
@@ -80,6 +81,7 @@ TellsEnough (Solve file) old = old.files.tells
 TellsEnough (Gen number) old = ⊤
 TellsEnough (Selftest name number) old = old.files.tells
 TellsEnough (Least file) old = old.files.tells
+TellsEnough (Board sources) old = old.files.tells
 TellsEnough (ManyFiles count) old = ⊤
 TellsEnough Usage old = ⊤
 
@@ -98,6 +100,7 @@ LimitCause (Gen number) files = ⊥
 LimitCause (Selftest name number) files = AreAboveLimit (generated number ∷ [])
 LimitCause (Least file) files =
     files.tells → Holds (files.content file) (λ text. (n m : ℕ) × IsLargeBoard n m text)
+LimitCause (Board sources) files = files.tells → HoldAll files.content sources AreAboveLimit
 LimitCause (ManyFiles count) files = ⊤
 LimitCause Usage files = ⊥
 

@@ -11,6 +11,7 @@
 #![tactic(auto)]
 
 mod answered;
+mod board;
 mod compile;
 mod evaluated;
 mod finished;

@@ -9,6 +9,7 @@ ghost use Rattle.pcc_driver.specs.Promises.{IsQuiet, TellsEnough, HasStatus, Has
 ghost use Rattle.pcc_words.specs.Words.{meaning};
 ghost use Rattle.pcc_driver.specs.declared.report.Report.{Report};
 
+use crate::board::board;
 use crate::compile::compile;
 use crate::evaluated::eval;
 use crate::finished::{finish, finish_wanting};
@@ -52,6 +53,7 @@ fn carry_out<F: FileStore, I: Source, O: Sink>(
             selftest(alloc, name, *number, TURN_LIMIT, STEP_LIMIT, files, out)
         }
         Command::Least { file } => least(alloc, file, files, out),
+        Command::Board { sources } => board(alloc, sources.as_slice(), files, out),
         Command::ManyFiles(count) => Report::TooManyFiles(*count as u64),
         Command::Usage(_) => Report::Usage,
     }

@@ -1,5 +1,6 @@
 pub mod Areas
 pub mod Shown
+pub mod EveryPoint
 pub mod Accepted
 pub mod Bounds
 pub mod Worked

@@ -1,4 +1,5 @@
 pub mod CompiledLaws
+pub mod EveryPoint
 pub mod Products
 pub mod Begins
 pub mod Ready

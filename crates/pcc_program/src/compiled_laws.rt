@@ -1,6 +1,7 @@
 //! The laws of compiled programs: each function's contract is one, and the function only cites those that it rests on.
 
 ghost use Rattle.pcc_program.specs.CompiledLaws.{CompiledDoesAs, GraphsAreShown};
+ghost use Rattle.pcc_program.specs.EveryPoint.{RightCodeIsTrue};
 
 use crate::start::text_begins;
 use flow_graph::{first_is_state, step_keeps_state};
@@ -20,4 +21,14 @@ pub fn graphs_are_shown()
 {
     first_is_state();
     step_keeps_state();
+}
+
+/// Where code is right, its image is true to the program's graphs at every point: the machine comes to a state that shows
+/// each state that the graphs come to, in order, and makes a step at each mark and turn.
+pub fn right_code_is_true()
+    ensures { RightCodeIsTrue }
+{
+    first_is_state();
+    step_keeps_state();
+    text_begins();
 }

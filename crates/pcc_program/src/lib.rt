@@ -24,7 +24,7 @@ mod start;
 mod tokens;
 
 pub use code::{framed_is_selected, graphs_have_frames};
-pub use compiled_laws::graphs_are_shown;
+pub use compiled_laws::{graphs_are_shown, right_code_is_true};
 pub use declared_first::{grammar_is_needed, locals_are_declared_first};
 pub use limits::{limits_bound, worked_example};
 pub use memory::sources_are_in_memory;

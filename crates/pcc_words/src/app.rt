@@ -172,6 +172,18 @@ fn least<'a>(alloc: Global) -> Result<Command<'a>, AllocError>
     )
 }
 
+/// `board SRC..`
+fn board<'a>(alloc: Global) -> Result<Command<'a>, AllocError>
+    ensures { IfOk result (λ c. (app_of c ≡ apps.board) × ((out-Command c).has_globals ≡ false)) }
+{
+    begun(
+        alloc,
+        "board",
+        "Prints the map of C files: the board of each point, and where variables are",
+        sources(alloc),
+    )
+}
+
 /// The program without its commands, of which one is required.
 fn top<'a>(alloc: Global) -> Command<'a>
     ensures { app_of result ≡ apps.top }
@@ -204,5 +216,6 @@ pub fn app<'a>(alloc: Global) -> Result<Command<'a>, AllocError>
     let with_solve = with_command(with_eval, solve(alloc));
     let with_generate = with_command(with_solve, generate(alloc));
     let with_selftest = with_command(with_generate, selftest(alloc));
-    with_command(with_selftest, least(alloc))
+    let with_least = with_command(with_selftest, least(alloc));
+    with_command(with_least, board(alloc))
 }

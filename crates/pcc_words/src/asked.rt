@@ -21,6 +21,8 @@ ghost use Rattle.clap.specs.declared.error.kind.ErrorKind.TheVariants.{OutOfMemo
 ghost use Rattle.pcc_words.specs.Asked.{
   asked_by,
   asked_in,
+  board_asked,
+  board_command,
   clashes,
   command_of,
   compile_asked,
@@ -80,6 +82,7 @@ Commands:
   pcc gen N                   prints the generated C program of the number N
   pcc selftest -o NAME N      evaluates and compiles that program, and runs its image, NAME
   pcc least FILE              prints the fewest pieces without which a board is solvable, and places the others
+  pcc board SRC..             prints the map of C files, with the board of each point
 ";
 
 /// No command, and what is told instead.
@@ -277,6 +280,28 @@ fn least_asked<'a>(alloc: Global, matches: &ArgMatches<'a>) -> Result<Command<'a
     }
 }
 
+/// `board`.
+fn board_of<'a>(alloc: Global, sources: &[&'a str]) -> Result<Command<'a>, NoMemory>
+    ensures { IfOk result (λ c. meaning c ≡ board_command (map (λ s. s.now) sources.now)) }
+{
+    if are_many(sources) {
+        return Ok(Command::ManyFiles(sources.len()));
+    }
+    let sources = copied(alloc, sources)?;
+    Ok(Command::Board { sources })
+}
+
+/// The matches of `board`.
+#[tactic(auto, using(crate::proofs::Rows::str_row, crate::proofs::Rows::strs_row))]
+fn board_asked<'a>(alloc: Global, matches: &ArgMatches<'a>) -> Result<Command<'a>, NoMemory>
+    ensures { IfOk result (λ c. meaning c ≡ board_asked (all_of (codes "SRC") (rows_of (found_of matches.now)))) }
+{
+    match matches.get_strs("SRC") {
+        Some(sources) => board_of(alloc, sources),
+        None => usage(alloc, "SRC is wanted"),
+    }
+}
+
 /// The command of this name, by the matches of its arguments.
 fn asked_by<'a>(
     alloc: Global,
@@ -293,6 +318,7 @@ fn asked_by<'a>(
         "gen" => gen_asked(alloc, matches),
         "selftest" => selftest_asked(alloc, matches),
         "least" => least_asked(alloc, matches),
+        "board" => board_asked(alloc, matches),
         _ => usage(alloc, "a command is wanted"),
     }
 }

@@ -35,6 +35,10 @@ pub enum Command<'a> {
     Least {
         file: &'a str,
     },
+    /// `board SRC..`: compile the sources, and put their map on the output.
+    Board {
+        sources: Vec<&'a str>,
+    },
     /// There are so many sources, more than are read.
     ManyFiles(usize),
     /// No command; the text says what is wrong with the words, or has the help that they ask for.

@@ -1,0 +1,213 @@
+"""Commands of gdb for images that pcc compiled: statements by file and line, and locals by the map.
+
+usage: gdb -x tools/gdb-pcc.py IMAGE        (the map is IMAGE.map)
+
+    pcc-sources FILE.c..     the program's sources, in the order of the command that compiled them
+    pcc-break FILE:LINE      a breakpoint at the first statement that begins on that line, or on the next line that has one
+    pcc-where                the function and the source line of the statement at which the program stands
+    pcc-locals               the locals that are live there: numbers signed, and pointers as an array with an index
+
+An array is `null`, `oK` for static object K, or `dJ.K` for frame array K of the call of depth J (1 is main's); `?` is a word that is none of them.
+"""
+import bisect
+import os
+import struct
+import sys
+
+import gdb  # pylint: disable=import-error
+
+sys.path.insert(0, os.path.dirname(os.path.realpath(__file__)))
+
+import maps  # noqa: E402
+import statements  # noqa: E402
+
+
+class Program:
+    """The map of the image that gdb has, and where the statements of its sources stand."""
+
+    def __init__(self):
+        self.name, self.map, self.places, self.numbered = None, None, [], []
+
+    def read(self):
+        name = gdb.current_progspace().filename
+        if name is None:
+            raise gdb.GdbError("no image: gdb IMAGE, or the command file")
+        if name != self.name:
+            try:
+                self.map = maps.read_file(f"{name}.map")
+            except (OSError, maps.NotMap) as error:
+                raise gdb.GdbError(f"{name}.map: {error}") from error
+            self.name = name
+            self.places = sorted(((p.address, f, p) for f in self.map.functions for p in f.points()), key=lambda it: it[0])
+        return self
+
+    def point_at(self, address):
+        """The function and the point with the greatest address up to this one."""
+        at = bisect.bisect_right([it[0] for it in self.places], address) - 1
+        return self.places[at][1:] if at >= 0 else (None, None)
+
+    def statement_of(self, f, point):
+        """The number of the statement that a point of a function belongs to: that of the last mark up to it, in the order of the map."""
+        number = None
+        for other in f.points():
+            if other.op.name == "mark":
+                number = int(other.op.words[1])
+            if other is point:
+                break
+        return number
+
+
+PROGRAM = Program()
+
+
+def register(name):
+    return int(gdb.parse_and_eval(f"${name}")) & 0xFFFFFFFF
+
+
+def memory(address, size):
+    return bytes(gdb.selected_inferior().read_memory(address, size))
+
+
+def word(address):
+    return struct.unpack("<I", memory(address, 4))[0]
+
+
+def frames():
+    """The frames of the active calls, the youngest first: EBP and the function, by the return addresses above them."""
+    program, ebp = PROGRAM.read(), register("ebp")
+    f = program.point_at(register("eip"))[0]
+    found = []
+    while f is not None:
+        found.append((ebp, f))
+        if f.name == "main" and word(ebp) == 0:
+            break
+        caller = program.point_at(word(ebp + 4) - 1)
+        ebp, f = word(ebp), caller[0]
+        if not ebp:
+            break
+    return found
+
+
+def array_name(address):
+    if not address:
+        return "null"
+    for k, (at, _, _) in enumerate(PROGRAM.map.objects):
+        if at == address:
+            return f"o{k}"
+    active = frames()
+    for depth, (ebp, f) in enumerate(reversed(active), 1):
+        for k, (offset, _, _) in enumerate(f.arrays):
+            if ebp + offset == address:
+                return f"d{depth}.{k}"
+    return "?"
+
+
+def value_of(place, width):
+    """The bytes of a place, as a number without a sign."""
+    if place.startswith("["):
+        return int.from_bytes(memory(register("ebp") - int(place[5:-1]), 1 if width == 1 else 4), "little")
+    if place in maps.WORDS:
+        return register(place)
+    whole = register(f"e{place[0]}x")
+    return whole >> 8 & 0xFF if place[1] == "h" else whole & 0xFF
+
+
+def signed(number, width):
+    bits = 8 if width == 1 else 32
+    return number - (1 << bits) if number >> bits - 1 else number
+
+
+def locals_at(f, point):
+    """A line for each local that is live at a point."""
+    rows = []
+    for v, place in point.before.items():
+        width, name = f.variables[v]
+        if name == "-" or name.endswith(".index"):
+            continue
+        if name.endswith(".base"):
+            index = point.before.get(v + 1)
+            array = array_name(value_of(place, 2))
+            behind = f"[{signed(value_of(index, 2), 2)}]" if index and array != "null" else ""
+            rows.append(f"{name[:-5]} = {array}{behind}")
+        else:
+            rows.append(f"{name} = {signed(value_of(place, width), width)}")
+    return rows
+
+
+def here():
+    """The function and the point at which the program stands."""
+    f, point = PROGRAM.read().point_at(register("eip"))
+    if point is None:
+        raise gdb.GdbError("the program stands at no point of the map")
+    return f, point
+
+
+class Sources(gdb.Command):
+    """pcc-sources FILE.c..: the program's sources, in the order of the command that compiled them."""
+
+    def __init__(self):
+        super().__init__("pcc-sources", gdb.COMMAND_FILES, gdb.COMPLETE_FILENAME)
+
+    def invoke(self, argument, from_tty):
+        program = PROGRAM.read()
+        try:
+            found = statements.statements_of(gdb.string_to_argv(argument))
+        except OSError as error:
+            raise gdb.GdbError(str(error)) from error
+        many = len(program.map.marks())
+        if len(found) != many:
+            raise gdb.GdbError(f"the sources have {len(found)} statements and the map {many}: they don't belong together")
+        program.numbered = found
+
+
+class Break(gdb.Command):
+    """pcc-break FILE:LINE: a breakpoint at the first statement that begins there, or behind it."""
+
+    def __init__(self):
+        super().__init__("pcc-break", gdb.COMMAND_BREAKPOINTS)
+
+    def invoke(self, argument, from_tty):
+        program = PROGRAM.read()
+        file, _, line = argument.strip().rpartition(":")
+        if not line.isdigit():
+            raise gdb.GdbError("pcc-break FILE:LINE")
+        if not program.numbered:
+            raise gdb.GdbError("pcc-sources FILE.c.. comes first")
+        wanted = [(it.line, k) for k, it in enumerate(program.numbered)
+                  if os.path.basename(it.file) == os.path.basename(file) and it.line >= int(line)]
+        if not wanted:
+            raise gdb.GdbError(f"no statement begins on line {line} of {file} or behind it")
+        at, number = min(wanted)
+        f, point = program.map.marks()[number]
+        gdb.Breakpoint(f"*{point.address:#x}")
+        print(f"statement {number} of {f.name}, {file}:{at}, at {point.address:#010x}")
+
+
+class Where(gdb.Command):
+    """pcc-where: the function and the source line of the statement at which the program stands."""
+
+    def __init__(self):
+        super().__init__("pcc-where", gdb.COMMAND_STACK)
+
+    def invoke(self, argument, from_tty):
+        f, point = here()
+        number = PROGRAM.statement_of(f, point)
+        place = PROGRAM.numbered[number] if PROGRAM.numbered and number is not None else None
+        print(f"{f.name}, point {point.number}, statement {number}" + (f", {place.file}:{place.line}" if place else ""))
+
+
+class Locals(gdb.Command):
+    """pcc-locals: the locals that are live at the point at which the program stands."""
+
+    def __init__(self):
+        super().__init__("pcc-locals", gdb.COMMAND_STACK)
+
+    def invoke(self, argument, from_tty):
+        f, point = here()
+        if point.address != register("eip"):
+            raise gdb.GdbError(f"the program stands behind point {point.number} of {f.name}, inside its instructions")
+        print("\n".join(locals_at(f, point)) or "no local is live here")
+
+
+for command in (Sources, Break, Where, Locals):
+    command()
