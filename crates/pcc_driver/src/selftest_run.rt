@@ -15,6 +15,7 @@ use pcc_outside::{MemSink, Sink, Source, SureSource};
 use std::alloc::Global;
 
 /// How the machine ended, and after how many steps, that of the end among them.
+#[derive(Clone, Copy)]
 struct Counted {
     end: MachineEnd,
     steps: u64,

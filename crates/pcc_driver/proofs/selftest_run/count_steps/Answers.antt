@@ -1,11 +1,10 @@
 -- The steps are counted as the machine makes them.
-use Rattle.std.proofs.Common.{◌≡◌, ◌+◌, ℕ, suc, refl, sym, ◌∙◌, subst, arith, add-one}
+use Rattle.std.proofs.Common.{◌≡◌, ℕ, suc, refl, sym, ◌∙◌, subst, arith, add-one, append-nil}
 use Rattle.pcc_outside.specs.Streams.{SinkCounts}
 use Rattle.ia32_insn.specs.State.{State}
 use Rattle.ia32_machine.specs.First.{lent}
 use Rattle.ia32_machine.specs.Runs.{RunCounts}
 use Rattle.ia32_machine.specs.Lending.{IsPutOn}
-use Rattle.ia32_machine.proofs.Performs.{none_put}
 use Rattle.ia32_machine.proofs.Runs.{Ran, put_joins, ran_none, ran_more, end_counts}
 use Rattle.pcc_driver.specs.Selftests.{CountedTold}
 use Rattle.pcc_driver.proofs.Counting.{counted_end, counted_spent}
@@ -14,7 +13,7 @@ use Rattle.pcc_driver.proofs.selftest_run.count_steps.Goals as goal
 pub steps-init : goal.steps-init
 steps-init g c = record {
   ran = λ _. ran_none c.args.machine.now (g.I.Source.left c.args.input.now)
-      (IsPutOn g.O.Sink c.args.out.now c.args.out.now) c.requires.bare (none_put g.O.Sink c.args.out.now);
+      (IsPutOn g.O.Sink c.args.out.now c.args.out.now) c.requires.bare (λ t. sym (append-nil (g.O.Sink.taken c.args.out.now)));
   faults = refl;
   counts = refl;
   input_tells = λ t. t;
