@@ -38,7 +38,13 @@ many_told (commands.Solve file) old new tokens told = absurd told.0
 many_told (commands.Eval turns sources) old new tokens told = λ f.
     let (texts, are, above) = (told.1 f).1 in (texts, are, (ManyTokens, above))
 many_told (commands.Gen seed) old new tokens told = absurd told.2
+many_told (commands.Selftest name number) old new tokens told = elim told.1 [
+  | inl line ↦ (ManyTokens, line.0.0.1)
+  | inr tested ↦ absurd tested.2
+]
 many_told (commands.Least file) old new tokens told = λ f. absurd (told.2 f)
+many_told (commands.Board sources) old new tokens told = λ f.
+    let (texts, are, above) = (told.2 f).0.1 in (texts, are, (ManyTokens, above))
 many_told (commands.ManyFiles count) old new tokens told = tt
 many_told commands.Usage old new tokens told = absurd (no_limit (reports.TooManyTokens tokens) old new told refl)
 
@@ -52,7 +58,13 @@ arrays_told (commands.Solve file) old new bytes told = absurd told.0
 arrays_told (commands.Eval turns sources) old new bytes told = λ f.
     let (texts, are, above) = told.1 f in (texts, are, (LargeArrays bytes, above))
 arrays_told (commands.Gen seed) old new bytes told = absurd told.2
+arrays_told (commands.Selftest name number) old new bytes told = elim told.1 [
+  | inl line ↦ (LargeArrays bytes, line.0.0)
+  | inr tested ↦ absurd tested.2
+]
 arrays_told (commands.Least file) old new bytes told = λ f. absurd (told.2 f)
+arrays_told (commands.Board sources) old new bytes told = λ f.
+    let (texts, are, above) = (told.2 f).0 in (texts, are, (LargeArrays bytes, above))
 arrays_told (commands.ManyFiles count) old new bytes told = tt
 arrays_told commands.Usage old new bytes told = absurd (no_limit (reports.LargeArrays bytes) old new told refl)
 
@@ -66,7 +78,13 @@ frame_told (commands.Solve file) old new function bytes told = absurd told.0
 frame_told (commands.Eval turns sources) old new function bytes told = λ f.
     let (texts, are, above) = told.1 f in (texts, are, (LargeFrame function.items bytes, above))
 frame_told (commands.Gen seed) old new function bytes told = absurd told.2
+frame_told (commands.Selftest name number) old new function bytes told = elim told.1 [
+  | inl line ↦ (LargeFrame function.items bytes, line.0.0)
+  | inr tested ↦ absurd tested.2
+]
 frame_told (commands.Least file) old new function bytes told = λ f. absurd (told.2 f)
+frame_told (commands.Board sources) old new function bytes told = λ f.
+    let (texts, are, above) = (told.2 f).0 in (texts, are, (LargeFrame function.items bytes, above))
 frame_told (commands.ManyFiles count) old new function bytes told = tt
 frame_told commands.Usage old new function bytes told =
     absurd (no_limit (reports.LargeFrame function bytes) old new told refl)
@@ -79,7 +97,12 @@ files_told (commands.Run steps image) old new count told = absurd told.0
 files_told (commands.Solve file) old new count told = absurd told.0
 files_told (commands.Eval turns sources) old new count told = λ f. absurd (told.1 f)
 files_told (commands.Gen seed) old new count told = absurd told.2
+files_told (commands.Selftest name number) old new count told = elim told.1 [
+  | inl line ↦ absurd line.0.0
+  | inr tested ↦ absurd tested.2
+]
 files_told (commands.Least file) old new count told = λ f. absurd (told.2 f)
+files_told (commands.Board sources) old new count told = λ f. absurd (told.2 f).0
 files_told (commands.ManyFiles number) old new count told = tt
 files_told commands.Usage old new count told = absurd (no_limit (reports.TooManyFiles count) old new told refl)
 
@@ -91,8 +114,13 @@ board_told (commands.Run steps image) old new areas pieces told = absurd told.0
 board_told (commands.Solve file) old new areas pieces told = absurd told.0
 board_told (commands.Eval turns sources) old new areas pieces told = λ f. absurd (told.1 f)
 board_told (commands.Gen seed) old new areas pieces told = absurd told.2
+board_told (commands.Selftest name number) old new areas pieces told = elim told.1 [
+  | inl line ↦ absurd line.0.0
+  | inr tested ↦ absurd tested.2
+]
 board_told (commands.Least file) old new areas pieces told = λ f.
     let (text, held, small, large) = (told.2 f).0 in (text, held, small, (areas, pieces, large))
+board_told (commands.Board sources) old new areas pieces told = λ f. absurd (told.2 f).0
 board_told (commands.ManyFiles count) old new areas pieces told = tt
 board_told commands.Usage old new areas pieces told =
     absurd (no_limit (reports.LargeBoard areas pieces) old new told refl)

@@ -1,5 +1,5 @@
 -- The status of a command where nothing fails, from the report that it ends in.
-use Rattle.std.proofs.Common.{◌≡◌, ℕ, List, Option, None, sym, ap, ◌∙◌, subst, inl, inr, refl, arith}
+use Rattle.std.proofs.Common.{◌≡◌, ℕ, List, [], ◌∷◌, Option, None, sym, ap, ◌∙◌, subst, inl, inr, refl, arith}
 use Rattle.std.specs.Prelude.{◌⊎◌}
 use Rattle.pcc_base.specs.Counts.{Rose}
 use Rattle.pcc_base.specs.Outcome as outcome
@@ -24,7 +24,9 @@ use Rattle.pcc_driver.proofs.SourcesStatus.{refused_status, typed_status}
 use Rattle.pcc_driver.proofs.BoardStatus.{least_status, solve_status}
 use Rattle.pcc_driver.proofs.EvalStatus.{eval_status}
 use Rattle.pcc_driver.proofs.Causes.{own_status}
-use Rattle.pcc_driver.specs.Answers.{AnswerPut, CommandTold, CompileTold, RunTold, RunGives, IsNoImage}
+use Rattle.pcc_driver.proofs.SelftestStatus.{selftest_status}
+use Rattle.pcc_driver.specs.Selftests.{step_limit, turn_limit}
+use Rattle.pcc_driver.specs.Answers.{AnswerPut, CommandTold, CompileTold, MapTold, RunTold, RunGives, IsNoImage}
 use Rattle.pcc_driver.specs.Promises.{IsQuiet, TellsEnough, CompileStatus, RunStatus, HasStatus}
 use Rattle.ia32_machine.proofs.First.{first-one}
 
@@ -187,12 +189,63 @@ answer_status answer reports.OutputFault old new cause told quiet = absurd (quie
 answer_status answer reports.NoMemory old new cause told quiet = inl refl
 answer_status answer report old new cause told quiet = absurd told
 
+-- ---- board
+
+-- the report of `board` has the status of the files
+map_status : (sources : List (List ℕ)) (old new : Outside) (report : Report) → HasCause report old.work new.work
+    → MapTold old.work.files.content sources old.work.out new.work.out report → IsQuiet old new
+    → (status_of report ≡ 11) ⊎ CompileStatus old.work.files.content sources (status_of report)
+map_status sources old new reports.Answered cause (texts, read, (program, typed, put)) quiet =
+    inr (typed_status old.work.files.content sources texts (λ p. 0 ≡ 0) program 0 read typed refl)
+map_status sources old new reports.OutputFault cause told quiet = absurd (quiet.output cause.streams.1)
+map_status sources old new reports.NoMemory cause told quiet = inl refl
+map_status sources old new (reports.NoFile file) cause told quiet =
+    refused_status old.work.files.content sources (λ p. status_of (reports.NoFile file) ≡ 0) (reports.NoFile file)
+    old.work.files.counts
+    new.work.files.counts cause.files quiet.reads told.0
+map_status sources old new (reports.TooLong file) cause told quiet =
+    refused_status old.work.files.content sources (λ p. status_of (reports.TooLong file) ≡ 0) (reports.TooLong file)
+    old.work.files.counts
+    new.work.files.counts cause.files quiet.reads told.0
+map_status sources old new (reports.SourceFault fault) cause told quiet =
+    refused_status old.work.files.content sources (λ p. status_of (reports.SourceFault fault) ≡ 0)
+    (reports.SourceFault fault) old.work.files.counts
+    new.work.files.counts cause.files quiet.reads told.0
+map_status sources old new (reports.TooManyTokens tokens) cause told quiet =
+    refused_status old.work.files.content sources (λ p. status_of (reports.TooManyTokens tokens) ≡ 0)
+    (reports.TooManyTokens tokens) old.work.files.counts
+    new.work.files.counts cause.files quiet.reads told.0
+map_status sources old new (reports.LargeArrays bytes) cause told quiet =
+    refused_status old.work.files.content sources (λ p. status_of (reports.LargeArrays bytes) ≡ 0)
+    (reports.LargeArrays bytes) old.work.files.counts
+    new.work.files.counts cause.files quiet.reads told.0
+map_status sources old new (reports.LargeFrame function bytes) cause told quiet =
+    refused_status old.work.files.content sources (λ p. status_of (reports.LargeFrame function bytes) ≡ 0)
+    (reports.LargeFrame function bytes) old.work.files.counts
+    new.work.files.counts cause.files quiet.reads told.0
+map_status sources old new (reports.ReadFault file) cause told quiet =
+    refused_status old.work.files.content sources (λ p. status_of (reports.ReadFault file) ≡ 0) (reports.ReadFault file)
+    old.work.files.counts
+    new.work.files.counts cause.files quiet.reads told.0
+map_status sources old new (reports.WriteFault file) cause told quiet = absurd told.0
+map_status sources old new (reports.TooManyFiles count) cause told quiet = absurd told.0
+map_status sources old new (reports.LargeBoard areas pieces) cause told quiet = absurd told.0
+map_status sources old new (reports.Exited status) cause told quiet = absurd told.0
+map_status sources old new reports.Usage cause told quiet = absurd told.0
+map_status sources old new reports.InputFault cause told quiet = absurd told.0
+map_status sources old new reports.NotImage cause told quiet = absurd told.0
+map_status sources old new (reports.Trapped trap) cause told quiet = absurd told.0
+map_status sources old new (reports.Stopped at address) cause told quiet = absurd told.0
+map_status sources old new (reports.BudgetSpent steps) cause told quiet = absurd told.0
+map_status sources old new reports.BadBoard cause told quiet = absurd told.0
+map_status sources old new reports.Compiled cause told quiet = absurd told.0
+
 -- ---- every command
 
 -- the report of a command has the status that the command has
 report_status : (command : Command) (report : Report) (old new : Outside) → HasCause report old.work new.work
     → CommandTold command old.work new.work report → TellsEnough command old.work → IsQuiet old new
-    → (status_of report ≡ 11) ⊎ HasStatus command old.work (status_of report)
+    → (status_of report ≡ 11) ⊎ HasStatus command old.work new.work (status_of report)
 report_status (commands.Compile name sources) report old new cause told f quiet =
     compile_status name sources old new report cause (told.0 f) quiet
 report_status (commands.Run steps image) report old new cause told enough quiet =
@@ -204,8 +257,12 @@ report_status (commands.Solve file) report old new cause told f quiet =
     solve_status (old.work.files.content file) report old new cause (told.3 f) quiet
 report_status (commands.Gen number) report old new cause told enough quiet =
     answer_status (generated number) report old new cause told.2 quiet
+report_status (commands.Selftest name number) report old new cause told f quiet =
+    selftest_status turn_limit step_limit name (generated number ∷ []) report old new cause told.1 f quiet
 report_status (commands.Least file) report old new cause told f quiet =
     least_status (old.work.files.content file) report old new cause (told.2 f) quiet
+report_status (commands.Board sources) report old new cause told f quiet =
+    map_status sources old new report cause (told.2 f) quiet
 report_status (commands.ManyFiles count) report old new cause told enough quiet =
     own_status (reports.TooManyFiles count) report old.work new.work told
 report_status commands.Usage report old new cause told enough quiet =
@@ -215,12 +272,12 @@ report_status commands.Usage report old new cause told enough quiet =
 pub exact_status : (command : Command) (report : Report) (old new : Outside) (result : ℕ)
     → HasCause report old.work new.work → CommandTold command old.work new.work report
     → Ends command report old.err new.err result → TellsEnough command old.work → IsQuiet old new
-    → (result ≡ 11) ⊎ HasStatus command old.work result
+    → (result ≡ 11) ⊎ HasStatus command old.work new.work result
 exact_status command report old new result cause told ends enough quiet =
     elim (ends_status command report old.err new.err result ends quiet.errors) [
       | inl none ↦ inl none
       | inr same ↦ elim (report_status command report old new cause told enough quiet) [
         | inl none ↦ inl (same ∙ none)
-        | inr has ↦ inr (subst (λ (n : ℕ). HasStatus command old.work n) (sym same) has)
+        | inr has ↦ inr (subst (λ (n : ℕ). HasStatus command old.work new.work n) (sym same) has)
       ]
     ]

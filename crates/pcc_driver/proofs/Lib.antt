@@ -5,7 +5,8 @@ pub mod SourcesTold
 pub mod Causes
 pub mod Exact
 pub mod Files
-pub mod Ready
+pub mod Mapping
+mod Ready
 pub mod Running
 pub mod Solving
 pub mod CommandTold
@@ -15,3 +16,7 @@ pub mod EvalStatus
 pub mod EvalTold
 pub mod BoardStatus
 pub mod Removing
+pub mod OneEnd
+pub mod Counting
+pub mod Selftesting
+pub mod SelftestStatus

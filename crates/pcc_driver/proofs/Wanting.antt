@@ -22,6 +22,7 @@ wanting_told (commands.Run steps image) work = (tt, λ f other. refl, λ f. tt, 
 wanting_told (commands.Eval turns sources) work = (λ f other. refl, λ f. tt, λ f i o. inl (refl, refl))
 wanting_told (commands.Solve file) work = (tt, λ f other. refl, refl, λ f o. refl)
 wanting_told (commands.Gen number) work = (λ f other. refl, refl, λ t. refl)
+wanting_told (commands.Selftest name number) work = (refl, inl (λ t. refl, λ f other. refl))
 wanting_told (commands.Least file) work = (λ f other. refl, refl, λ f o. refl)
 wanting_told (commands.ManyFiles count) work = (inr refl, λ f other. refl, (refl, refl))
 wanting_told commands.Usage work = (inr refl, λ f other. refl, (refl, refl))

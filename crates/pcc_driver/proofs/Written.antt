@@ -1,5 +1,5 @@
 -- What the writes of a compilation leave is what its report tells.
-use Rattle.std.proofs.Common.{◌≡◌, ◌≢◌, ℕ, List, Some, ap, ◌∙◌, inl, inr}
+use Rattle.std.proofs.Common.{◌≡◌, ◌≢◌, ℕ, List, Some, ap, ◌∙◌, inl, inr, refl}
 use Rattle.pcc_program.proofs.Small.{texts_bound_graphs}
 use Rattle.pcc_driver.specs.Answers.{CompileTold, WritesTold, MapStands}
 use Rattle.pcc_words.specs.Asked.{map_name}
@@ -7,6 +7,7 @@ use Rattle.pcc_driver.specs.Outside.{Files, SameFiles}
 use Rattle.pcc_driver.specs.Programs.{HaveNoProgram}
 use Rattle.pcc_driver.specs.Sources.{AreRead}
 use Rattle.pcc_driver.specs.Products.{AreProducts}
+use Rattle.pcc_driver.specs.Selftests.{StandsAs}
 use Rattle.pcc_driver.specs.declared.report.Named.TheVariants.{Source, Map, Image, Board}
 use Rattle.pcc_driver.specs.declared.report.Report.{Report}
 use Rattle.pcc_driver.specs.declared.report.Report.TheVariants as reports
@@ -21,6 +22,28 @@ map_stands name sources texts map_bytes image old mid new kept read products wri
   λ other n m. others other n m ∙ kept other,
 )
 
+-- what stands of texts, where both files are written
+pub stands_of : (name : List ℕ) (texts : List (List ℕ)) (map_bytes image : List ℕ) (old new : Files)
+    → AreProducts texts map_bytes image → new (map_name name) ≡ Some map_bytes → new name ≡ Some image
+    → ((other : List ℕ) → other ≢ name → other ≢ map_name name → new other ≡ old other)
+    → StandsAs old new name texts image
+stands_of name texts map_bytes image old new products map_written image_written others = (
+  record {
+    program = products.0;
+    map = products.2.0;
+    image = image;
+    accepted = products.1.0;
+    map_written = map_written ∙ ap Some products.2.1;
+    image_written = image_written;
+    others = others;
+    correct = products.2.2;
+    nothing_first = products.2.2.belongs.lowered.first_points products.1.1;
+    small = texts_bound_graphs texts products.0 products.2.2.belongs.code.program products.1.0
+        products.2.2.belongs.lowered.small;
+  },
+  refl,
+)
+
 -- the report of the writes tells what the compilation did
 pub written_told : (report : Report) (name : List ℕ) (sources texts : List (List ℕ)) (map_bytes image : List ℕ)
     (old mid new : Files) → ((other : List ℕ) → mid other ≡ old other) → AreRead old sources texts
@@ -30,19 +53,8 @@ written_told reports.Compiled name sources texts map_bytes image old mid new kep
     record {
       texts = texts;
       sources_read = read;
-      stands = record {
-        program = products.0;
-        map = products.2.0;
-        image = image;
-        accepted = products.1.0;
-        map_written = told.0 ∙ ap Some products.2.1;
-        image_written = told.1;
-        others = λ other n m. told.2 other n m ∙ kept other;
-        correct = products.2.2;
-        nothing_first = products.2.2.belongs.lowered.first_points products.1.1;
-        small = texts_bound_graphs texts products.0 products.2.2.belongs.code.program products.1.0
-            products.2.2.belongs.lowered.small;
-      };
+      stands = (stands_of name texts map_bytes image old new products told.0 told.1
+          (λ other n m. told.2 other n m ∙ kept other)).0;
     }
 written_told (reports.WriteFault Map) name sources texts map_bytes image old mid new kept read products told =
     λ other n. told other n ∙ kept other

@@ -1,5 +1,5 @@
 -- What a command leaves behind and why, by cases over its report: impossible reports are refused.
-use Rattle.std.specs.Prelude.{◌≡◌, ◌≢◌, ◌<◌, ◌⊎◌, ℕ, suc, ◌+◌, List, ◌++◌, length, take, drop, Option, Some, None, ⊤}
+use Rattle.std.specs.Prelude.{◌≡◌, ◌≢◌, ◌<◌, ◌⊎◌, ℕ, suc, ◌+◌, List, [], ◌∷◌, ◌++◌, length, take, drop, Option, Some, None, ⊤}
 use Rattle.pcc_base.specs.Outcome as outcome
 use Rattle.pcc_base.specs.Outcome.{Outcome}
 use Rattle.pcc_outside.specs.declared.sink.WriteRefusal.{WriteRefusal}
@@ -17,11 +17,13 @@ use Rattle.c_tree.specs.Program.{Program}
 use Rattle.pcc_gen.specs.Generated.{generated}
 use Rattle.pcc_program.specs.Products.{IsImageOf}
 use Rattle.puzzle_solver.specs.Reading.{IsNoBoard}
-use Rattle.pcc_words.specs.Asked.{Command, Compile, Run, Eval, Solve, Gen, Least, ManyFiles, Usage, map_name}
-use Rattle.pcc_driver.specs.Programs.{HaveTypedProgram, HaveNoProgram}
+use Rattle.pcc_words.specs.Asked.{Command, Compile, Run, Eval, Solve, Gen, Selftest, Least, ManyFiles, Usage, map_name}
+use Rattle.pcc_words.specs.Asked.{Board as BoardOf}
+use Rattle.pcc_driver.specs.Programs.{HaveTypedProgram, HaveNoProgram, HoldProgram}
 use Rattle.pcc_driver.specs.Sources.{AreRead, Holds, IsTooLong}
 use Rattle.pcc_driver.specs.Ends.{IsUnlessMemory}
 use Rattle.pcc_driver.specs.Outside.{Files, Output, SameFiles, SameStreams, Work}
+pub use Rattle.pcc_driver.specs.Outside.{IsPut, OnlyFile}
 use Rattle.pcc_driver.specs.declared.report.Named.{Named}
 use Rattle.pcc_driver.specs.declared.report.Named.TheVariants.{Map, Image, Board}
 use Rattle.pcc_driver.specs.declared.report.Report.{Report}
@@ -29,13 +31,10 @@ use Rattle.pcc_driver.specs.declared.report.Report.TheVariants as reports
 use Rattle.pcc_driver.specs.Evaluations.{EvalTold, SourcesTold}
 use Rattle.pcc_driver.specs.Headline.{IsCompiled}
 use Rattle.pcc_driver.specs.Removals.{IsLargeBoard, IsRemovalOf}
+use Rattle.pcc_driver.specs.Selftests.{SelftestTold, step_limit, turn_limit}
 use Rattle.pcc_driver.specs.Solutions.{IsSolution}
 
 -- ---- compile
-
--- no file has changed but this one
-abbrev pub OnlyFile : List ℕ → Files → Files → Type 0
-OnlyFile name old new = (other : List ℕ) → other ≢ name → new other ≡ old other
 
 -- NAME.map holds the text of the map of an image that does what the sources' program does; NAME, and no other file, may
 -- have changed
@@ -77,6 +76,14 @@ GivesNoMachine image reports.NotImage = (segments : Segments) → Loads image se
 GivesNoMachine image reports.NoMemory = ⊤
 GivesNoMachine image _ = ⊥
 
+-- the reports of writing two files
+abbrev pub IsOfWrites : Report → Type 0
+IsOfWrites reports.Compiled = ⊤
+IsOfWrites (reports.WriteFault Map) = ⊤
+IsOfWrites (reports.WriteFault Image) = ⊤
+IsOfWrites reports.NoMemory = ⊤
+IsOfWrites _ = ⊥
+
 -- two files are written, the map's and then the image's; no other file has changed
 abbrev pub WritesTold : List ℕ → List ℕ → List ℕ → List ℕ → Files → Files → Report → Type 0
 WritesTold map_name name map_bytes image old new reports.Compiled =
@@ -92,10 +99,6 @@ WritesTold map_name name map_bytes image old new reports.NoMemory =
 WritesTold map_name name map_bytes image old new _ = ⊥
 
 -- ---- run
-
--- where the output tells what it took, these bytes were put on it
-abbrev pub IsPut : Output → Output → List ℕ → Type 0
-IsPut old new bytes = old.tells → new.taken ≡ old.taken ++ bytes
 
 -- so many steps of the image with these bytes have this end
 abbrev pub RunGives : ℕ → Work → Work → outcome.End → List ℕ → Type 0
@@ -212,6 +215,27 @@ GivesNoRemoval text report = GivesNoAnswer text report
 abbrev pub LeastTold : Option (List ℕ) → Output → Output → Report → Type 0
 LeastTold content old new report = BoardTold IsRemovalOf IsLargeBoard content old new report
 
+-- ---- board
+
+-- the text of a map of an image that does what the program does was put, or what the report says of that
+abbrev pub MapPut : Output → Output → Report → Program → Type 0
+MapPut old new report program =
+    (map : maps.Map) × (image : List ℕ) × IsImageOf program map image × AnswerPut (map_text map) old new report
+
+-- what the report says of the program's map: it was put, or where that failed a prefix of it, or nothing
+abbrev pub ProgramPut : Output → Output → Report → Program → Type 0
+ProgramPut old new reports.Answered program = MapPut old new reports.Answered program
+ProgramPut old new reports.OutputFault program = MapPut old new reports.OutputFault program
+ProgramPut old new reports.NoMemory program = old.tells → new.taken ≡ old.taken
+ProgramPut old new _ program = ⊥
+
+-- the report of `board` on files that are told; and what was put on the output where that tells
+abbrev pub MapTold : Files → List (List ℕ) → Output → Output → Report → Type 0
+MapTold files sources old new reports.Answered = HoldProgram files sources (MapPut old new reports.Answered)
+MapTold files sources old new reports.OutputFault = HoldProgram files sources (MapPut old new reports.OutputFault)
+MapTold files sources old new reports.NoMemory = old.tells → new.taken ≡ old.taken
+MapTold files sources old new report = HaveNoProgram files sources report × (new.taken ≡ old.taken)
+
 -- ---- every command
 
 -- words that ask for nothing have this report, and nothing is done
@@ -238,8 +262,14 @@ CommandTold (Solve file) old new report =
 CommandTold (Gen number) old new report =
     (old.files.tells → SameFiles old.files.content new.files.content) × (new.input.left ≡ old.input.left)
     × AnswerPut (generated number) old.out new.out report
+CommandTold (Selftest name number) old new report =
+    (new.input.left ≡ old.input.left)
+    × SelftestTold turn_limit step_limit name (generated number ∷ []) old.files new.files old.out new.out report
 CommandTold (Least file) old new report =
     (old.files.tells → SameFiles old.files.content new.files.content) × (new.input.left ≡ old.input.left)
     × (old.files.tells → LeastTold (old.files.content file) old.out new.out report)
+CommandTold (BoardOf sources) old new report =
+    (old.files.tells → SameFiles old.files.content new.files.content) × (new.input.left ≡ old.input.left)
+    × (old.files.tells → MapTold old.files.content sources old.out new.out report)
 CommandTold (ManyFiles count) old new report = NothingDone (reports.TooManyFiles count) old new report
 CommandTold Usage old new report = NothingDone reports.Usage old new report

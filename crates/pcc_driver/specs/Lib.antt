@@ -11,3 +11,4 @@ pub mod Promises
 pub mod Solutions
 pub mod Evaluations
 pub mod Removals
+pub mod Selftests

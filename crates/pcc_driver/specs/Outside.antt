@@ -1,5 +1,5 @@
 -- What the top call is lent, as contracts see it: a store of files, an input, an output, and standard error.
-use Rattle.std.specs.Prelude.{◌≡◌, ℕ, List, Option}
+use Rattle.std.specs.Prelude.{◌≡◌, ◌≢◌, ◌++◌, ℕ, List, Option}
 use Rattle.pcc_outside.specs.Files.{StoreCounts}
 use Rattle.pcc_outside.specs.Streams.{SinkCounts}
 use Rattle.pcc_outside.specs.declared.file_store.FileStore as file_store
@@ -64,6 +64,14 @@ outside_of store source sink errors files input out err =
 -- no file has changed
 abbrev pub SameFiles : Files → Files → Type 0
 SameFiles old new = (other : List ℕ) → new other ≡ old other
+
+-- no file has changed but this one
+abbrev pub OnlyFile : List ℕ → Files → Files → Type 0
+OnlyFile name old new = (other : List ℕ) → other ≢ name → new other ≡ old other
+
+-- where the output tells what it took, these bytes were put on it
+abbrev pub IsPut : Output → Output → List ℕ → Type 0
+IsPut old new bytes = old.tells → new.taken ≡ old.taken ++ bytes
 
 -- nothing was taken of the input or put on the output
 abbrev pub SameStreams : Work → Work → Type 0

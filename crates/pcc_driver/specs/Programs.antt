@@ -54,6 +54,15 @@ HaveNoProgram files sources (reports.LargeFrame name bytes) =
 HaveNoProgram files sources reports.NoMemory = ⊤
 HaveNoProgram files sources _ = ⊥
 
+-- why texts have no typed program within the limits, by the report: their fault, or the limit that they are above
+abbrev pub TextsRefused : List (List ℕ) → Report → Type 0
+TextsRefused texts (reports.SourceFault fault) = HaveFault texts fault
+TextsRefused texts (reports.TooManyTokens tokens) = (tokens ≡ 0x10001) × Exceed texts ManyTokens
+TextsRefused texts (reports.LargeArrays bytes) = Exceed texts (LargeArrays bytes)
+TextsRefused texts (reports.LargeFrame name bytes) = Exceed texts (LargeFrame name.items bytes)
+TextsRefused texts reports.NoMemory = ⊤
+TextsRefused texts _ = ⊥
+
 -- the sources hold texts that have a typed program within the limits, of which this holds
 abbrev pub HoldProgram : Files → List (List ℕ) → (Program → Type 0) → Type 0
 HoldProgram files sources P = HoldAll files sources (λ texts. (p : Program) × HaveTypedProgram texts p × P p)

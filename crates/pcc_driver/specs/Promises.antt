@@ -1,5 +1,5 @@
 -- The promises of the top call on its statuses.
-use Rattle.std.specs.Prelude.{◌≡◌, ◌<◌, ◌≤◌, ◌⊎◌, ⊤, ℕ, List, length, Option, Some, None}
+use Rattle.std.specs.Prelude.{◌≡◌, ◌<◌, ◌≤◌, ◌⊎◌, ⊤, ℕ, List, [], ◌∷◌, length, Option, Some, None}
 use Rattle.pcc_base.specs.Counts.{Rose}
 use Rattle.pcc_base.specs.Outcome.{Outcome}
 use Rattle.ia32_insn.specs.State.{State}
@@ -8,12 +8,14 @@ use Rattle.ia32_machine.specs.First.{First}
 use Rattle.pcc_driver.specs.Evaluations.{EvalStatus}
 use Rattle.pcc_driver.specs.Answers.{IsNoImage}
 use Rattle.puzzle_solver.specs.Reading.{IsNoBoard}
-use Rattle.pcc_words.specs.Asked.{Command, Compile, Run, Eval, Solve, Gen, Least, ManyFiles, Usage}
+use Rattle.pcc_gen.specs.Generated.{generated}
+use Rattle.pcc_words.specs.Asked.{Command, Compile, Run, Eval, Solve, Gen, Selftest, Least, Board, ManyFiles, Usage}
 use Rattle.pcc_driver.specs.Outside.{Files, Outside, Store, Work}
 use Rattle.pcc_driver.specs.Reports.{end_status}
 use Rattle.pcc_driver.specs.Programs.{SourcesStatus, Excess, Exceed}
 use Rattle.pcc_driver.specs.Sources.{HoldAll, Holds, file_limit}
 use Rattle.pcc_driver.specs.Removals.{IsLargeBoard}
+use Rattle.pcc_driver.specs.Selftests.{SelftestStatus, step_limit, turn_limit}
 use Rattle.pcc_driver.specs.Solutions.{IsSomeBoard}
 
 -- no count of faults rose
@@ -24,7 +26,7 @@ pub record IsQuiet (old new : Outside) : Type 0 where
   pub output : Rose old.work.out.counts.faults new.work.out.counts.faults → ⊥
   pub errors : Rose old.err.counts.faults new.err.counts.faults → ⊥
 
--- the status of `compile` for what the files hold: every typed program within the limits is compiled
+-- the status of `compile` and of `board` for what the files hold: every typed program within the limits is compiled
 abbrev pub CompileStatus : Files → List (List ℕ) → ℕ → Type 0
 CompileStatus files sources status = SourcesStatus files sources (λ p. status ≡ 0) status
 
@@ -54,26 +56,32 @@ LeastStatus (Some text) status =
     × (length text ≤ file_limit → IsSomeBoard text → ((n m : ℕ) → IsLargeBoard n m text → ⊥) → status ≡ 0)
     × (length text ≤ file_limit → IsNoBoard text → status ≡ 1)
 
--- the one status of a command on this where nothing fails
-abbrev pub HasStatus : Command → Work → ℕ → Type 0
-HasStatus (Compile name sources) old status = CompileStatus old.files.content sources status
-HasStatus (Run steps image) old status = RunStatus steps old.input.left (old.files.content image) status
-HasStatus (Eval turns sources) old status = EvalStatus turns old.input.left old.files.content sources status
-HasStatus (Solve file) old status = SolveStatus (old.files.content file) status
-HasStatus (Gen number) old status = status ≡ 0
-HasStatus (Least file) old status = LeastStatus (old.files.content file) status
-HasStatus (ManyFiles count) old status = status ≡ 3
-HasStatus Usage old status = status ≡ 2
+-- the one status of a command on this where nothing fails, which leaves this: that of `selftest` hangs on the image that
+-- was written
+abbrev pub HasStatus : Command → Work → Work → ℕ → Type 0
+HasStatus (Compile name sources) old new status = CompileStatus old.files.content sources status
+HasStatus (Run steps image) old new status = RunStatus steps old.input.left (old.files.content image) status
+HasStatus (Eval turns sources) old new status = EvalStatus turns old.input.left old.files.content sources status
+HasStatus (Solve file) old new status = SolveStatus (old.files.content file) status
+HasStatus (Gen number) old new status = status ≡ 0
+HasStatus (Selftest name number) old new status =
+    SelftestStatus turn_limit step_limit name (generated number ∷ []) new.files.content status
+HasStatus (Least file) old new status = LeastStatus (old.files.content file) status
+HasStatus (Board sources) old new status = CompileStatus old.files.content sources status
+HasStatus (ManyFiles count) old new status = status ≡ 3
+HasStatus Usage old new status = status ≡ 2
 
--- What the status of a command hangs on tells: its files, and the streams that decide how it ends. A generated program,
--- and words that ask for nothing, have their status whatever is told.
+-- What the status of a command hangs on tells: its files, and the streams that decide how it ends. A generated program
+-- that is put, and words that ask for nothing, have their status whatever is told.
 abbrev pub TellsEnough : Command → Work → Type 0
 TellsEnough (Compile name sources) old = old.files.tells
 TellsEnough (Run steps image) old = old.files.tells × old.input.tells
 TellsEnough (Eval turns sources) old = old.files.tells × old.input.tells × old.out.tells
 TellsEnough (Solve file) old = old.files.tells
 TellsEnough (Gen number) old = ⊤
+TellsEnough (Selftest name number) old = old.files.tells
 TellsEnough (Least file) old = old.files.tells
+TellsEnough (Board sources) old = old.files.tells
 TellsEnough (ManyFiles count) old = ⊤
 TellsEnough Usage old = ⊤
 
@@ -81,15 +89,18 @@ TellsEnough Usage old = ⊤
 abbrev pub AreAboveLimit : List (List ℕ) → Type 0
 AreAboveLimit texts = (excess : Excess) × Exceed texts excess
 
--- the command has too many sources, or sources or a board that are above a limit, where the files tell
+-- the command has too many sources, or sources or a board that are above a limit, where the files tell, or a generated
+-- program that is
 abbrev pub LimitCause : Command → Store → Type 0
 LimitCause (Compile name sources) files = files.tells → HoldAll files.content sources AreAboveLimit
 LimitCause (Run steps image) files = ⊥
 LimitCause (Eval turns sources) files = files.tells → HoldAll files.content sources AreAboveLimit
 LimitCause (Solve file) files = ⊥
 LimitCause (Gen number) files = ⊥
+LimitCause (Selftest name number) files = AreAboveLimit (generated number ∷ [])
 LimitCause (Least file) files =
     files.tells → Holds (files.content file) (λ text. (n m : ℕ) × IsLargeBoard n m text)
+LimitCause (Board sources) files = files.tells → HoldAll files.content sources AreAboveLimit
 LimitCause (ManyFiles count) files = ⊤
 LimitCause Usage files = ⊥
 

@@ -5,7 +5,7 @@ ghost use Rattle.pcc_driver.specs.Causes.{FilesCause, StreamsCause};
 ghost use Rattle.pcc_driver.specs.Outside.{Files, SameFiles};
 ghost use Rattle.pcc_driver.specs.Programs.{HaveTypedProgram, IsTyped};
 ghost use Rattle.pcc_driver.specs.Sources.{AreRead};
-ghost use Rattle.pcc_driver.specs.Answers.{CompileTold, WritesTold, report_of_write};
+ghost use Rattle.pcc_driver.specs.Answers.{CompileTold, IsOfWrites, WritesTold, report_of_write};
 
 use crate::report::{Named, Report};
 use crate::typed_sources::program_of_sources;
@@ -26,13 +26,14 @@ fn write_report(refusal: WriteRefusal, file: Named) -> Report
 }
 
 /// Writes NAME.map, and then NAME.
-fn write_products<F: FileStore>(
+pub fn write_products<F: FileStore>(
     map_name: &str,
     name: &str,
     products: &Products,
     files: &mut F,
 ) -> Report
     requires { map_name.now ≢ name.now }
+    ensures own { IsOfWrites result }
     ensures cause { FilesCause result (F.counts files.old) (F.counts files.new) }
     ensures streams { (input : ℕ) (out : SinkCounts) → StreamsCause result input input out out }
     ensures telling { F.tells files.old → F.tells files.new }

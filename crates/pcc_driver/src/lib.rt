@@ -4,12 +4,14 @@
 //! report's line on standard error. The promise: a compiled image does exactly what its sources do
 //! (`specs/Headline.antt`), and each status has its cause and its line (`specs/Answers.antt`, `specs/Promises.antt`).
 //!
-//! `pcc` in `src/top.rt` carries the promises, and `compile`, `run`, `evaluated`, `solve`, `generate` and `least` carry
-//! out the commands; `answered` puts an answer on the output. `reading` and `typed_sources` have the sources that a command
+//! `pcc` in `src/top.rt` carries the promises, and `compile`, `run`, `evaluated`, `solve`, `generate`, `selftest` and
+//! `least` carry out the commands; `answered` puts an answer on the output. `selftest_run` and `selftest_lines` run the
+//! image and make the two lines of `selftest`. `reading` and `typed_sources` have the sources that a command
 //! names and their typed program; `report`, `report_lines` and `finished` how a command went, with its line and status.
 #![tactic(auto)]
 
 mod answered;
+mod board;
 mod compile;
 mod evaluated;
 mod finished;
@@ -19,6 +21,9 @@ mod reading;
 mod report;
 mod report_lines;
 mod run;
+mod selftest;
+mod selftest_lines;
+mod selftest_run;
 mod solve;
 mod top;
 mod typed_sources;

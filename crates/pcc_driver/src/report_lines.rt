@@ -65,6 +65,15 @@ fn push_name(out: &mut Vec<u8>, command: &Command<'_>, file: Named) -> Result<()
             Named::Source(position) => push_source(out, sources.as_slice(), position)?,
             Named::Map | Named::Image | Named::Board => {}
         },
+        Command::Selftest { name, .. } => match file {
+            Named::Source(_) => out.extend_from_slice(b"gen")?,
+            Named::Map => {
+                out.extend_from_slice(name.as_bytes())?;
+                out.extend_from_slice(b".map")?;
+            }
+            Named::Image => out.extend_from_slice(name.as_bytes())?,
+            Named::Board => {}
+        },
         Command::Run { image, .. } => out.extend_from_slice(image.as_bytes())?,
         Command::Solve { file } | Command::Least { file } => out.extend_from_slice(
             file.as_bytes(),

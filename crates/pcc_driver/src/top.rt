@@ -9,6 +9,7 @@ ghost use Rattle.pcc_driver.specs.Promises.{IsQuiet, TellsEnough, HasStatus, Has
 ghost use Rattle.pcc_words.specs.Words.{meaning};
 ghost use Rattle.pcc_driver.specs.declared.report.Report.{Report};
 
+use crate::board::board;
 use crate::compile::compile;
 use crate::evaluated::eval;
 use crate::finished::{finish, finish_wanting};
@@ -16,6 +17,7 @@ use crate::generate::generate;
 use crate::least::least;
 use crate::report::Report;
 use crate::run::run;
+use crate::selftest::{STEP_LIMIT, TURN_LIMIT, selftest};
 use crate::solve::solve;
 use pcc_base::NoMemory;
 use pcc_outside::{FileStore, Sink, Source};
@@ -47,7 +49,11 @@ fn carry_out<F: FileStore, I: Source, O: Sink>(
             eval(alloc, *turns, sources.as_slice(), files, input, out)
         }
         Command::Gen { number } => generate(alloc, *number, out),
+        Command::Selftest { name, number } => {
+            selftest(alloc, name, *number, TURN_LIMIT, STEP_LIMIT, files, out)
+        }
         Command::Least { file } => least(alloc, file, files, out),
+        Command::Board { sources } => board(alloc, sources.as_slice(), files, out),
         Command::ManyFiles(count) => Report::TooManyFiles(*count as u64),
         Command::Usage(_) => Report::Usage,
     }
@@ -59,7 +65,7 @@ fn carry_out<F: FileStore, I: Source, O: Sink>(
 /// | status | only where |
 /// |---|---|
 /// | 0 | the command did its work |
-/// | 1 | the sources aren't accepted, or the file is no board |
+/// | 1 | the sources or the generated program aren't accepted, or the file is no board |
 /// | 2 | the words mean no command |
 /// | 3 | a file has too many bytes, there are too many sources, or they or the board are above another limit |
 /// | 4 | reading a file or the input failed |
@@ -68,7 +74,7 @@ fn carry_out<F: FileStore, I: Source, O: Sink>(
 /// | 7 | the file is no image |
 /// | 8 | the program trapped |
 /// | 9 | the machine stopped |
-/// | 10 | the program still runs after the steps or turns that the words have |
+/// | 10 | the program still runs after the steps or turns that the words or `selftest` have |
 /// | 11 | there was no memory |
 pub fn pcc<F: FileStore, I: Source, O: Sink, E: Sink>(
     alloc: Global,
@@ -87,12 +93,12 @@ pub fn pcc<F: FileStore, I: Source, O: Sink, E: Sink>(
         F.tells files.old → result ≡ 0 →
         IsCompiled (F.content files.old) (F.content files.new) name sources }
 
-    // The status is the one that the words, the files and the input have, where these tell, unless memory was wanting
-    // or a fault came.
+    // The status is the one that the words, the files and the input have, and for `selftest` the written image, where
+    // these tell, unless memory was wanting or a fault came.
     ensures exact { let old = outside_of F.FileStore I.Source O.Sink E.Sink files.old input.old out.old err.old in
         let new = outside_of F.FileStore I.Source O.Sink E.Sink files.new input.new out.new err.new in
         let command = command_of (map string_bytes words.now.items) in
-        TellsEnough command old.work → IsQuiet old new → (result ≡ 11) ⊎ HasStatus command old.work result }
+        TellsEnough command old.work → IsQuiet old new → (result ≡ 11) ⊎ HasStatus command old.work new.work result }
 
     // Which count rose where the outside is the cause, and that there are too many sources, or that these are above a
     // limit, else.

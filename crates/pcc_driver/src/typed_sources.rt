@@ -42,7 +42,7 @@ pub fn unread_report(unread: Unread) -> Report
 }
 
 /// The report of texts that have no typed program within the limits.
-fn refused_report(refused: Refused) -> Report
+pub fn refused_report(refused: Refused) -> Report
     ensures { result ≡ report_of_refused refused }
 {
     match refused {

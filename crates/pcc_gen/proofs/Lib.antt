@@ -1,3 +1,4 @@
 mod Drawing
 mod Following
 mod Putting
+mod Short

@@ -9,5 +9,5 @@ mod laws;
 mod program;
 mod statements;
 
-pub use laws::worked_program;
+pub use laws::{texts_are_short, worked_program};
 pub use program::{gen_program, gen_text};

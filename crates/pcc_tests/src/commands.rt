@@ -71,7 +71,7 @@ const COMMANDS: &str = "\n  pcc run [--steps N] IMAGE ";
 /// What a telling of usage has for words that mean help or nothing: the command line, and two of its parts. The second
 /// one is `COMMANDS` where a row has one alone.
 const USAGES: &str = "\
-18 rows
+21 rows
  => 'pcc' requires a subcommand
 compile a.c => -o <NAME>
 compile -o a => <SRC>...
@@ -86,6 +86,9 @@ solve => <FILE>
 gen => <N>
 gen 4294967296 => invalid value '4294967296'
 gen -1 => '-1'
+selftest 1 => -o <NAME>
+selftest -o g => <N>
+selftest -o g x => invalid value 'x'
 gcc a.c => 'gcc'
 --help =>   compile  Compiles C files =>   solve\x20
 run --help => --steps <N> => [default: 1000000000]

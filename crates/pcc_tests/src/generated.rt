@@ -1,8 +1,11 @@
-//! Generated programs as the command `gen` puts them: how they begin, how long they are, and what they print.
+//! Generated programs as the command `gen` puts them: how they begin, how long they are, and what they print; and what
+//! `selftest` puts of them.
 
 use crate::expected::expect;
-use crate::runs::{expect_command, expect_run, files_with, no_files, run_line, run_refused};
+use crate::runs::{expect_answer, expect_command, expect_run, files_with, no_files, run_line};
+use crate::runs::run_refused;
 use crate::tables::{cells, rows_of};
+use pcc_outside::MemFiles;
 use std::alloc::{AllocError, Global};
 use std::process::Abort;
 
@@ -111,4 +114,77 @@ fn tells_a_refused_program(rt: HostRuntime) {
         &(5, 0),
         "the status, and what was taken",
     );
+}
+
+/// `selftest` of a number writes `g`, and puts two lines with these digits, the second with a number of steps, which is
+/// answered. It asks nothing of standard error.
+fn expect_selftest(
+    rt: &impl Abort,
+    alloc: Global,
+    files: &mut MemFiles,
+    number: &str,
+    digits: &str,
+) -> u64 {
+    let line: Result<String, AllocError> = format!(in alloc; "selftest -o g {number}");
+    let line = line.expect(rt, number);
+    let answer = run_line(rt, alloc, line.as_str(), files, 1);
+    let front: Result<String, AllocError> = format!(in alloc;
+        "eval {digits} exit 0\nrun {digits} exit 0 steps "
+    );
+    let front = front.expect(rt, number);
+    let text = std::str::from_utf8(answer.out.taken()).expect(rt, number);
+    let steps = text.strip_prefix(front.as_str()).expect(rt, text);
+    expect(rt, &answer.status, &0, number);
+    steps.trim_end().parse().expect(rt, text)
+}
+
+/// The image `g` ends in exactly so many steps, and has put these digits.
+fn expect_steps(rt: &impl Abort, alloc: Global, files: &mut MemFiles, steps: u64, digits: &str) {
+    let fewer = steps.saturating_sub(1);
+    let ends: Result<String, AllocError> = format!(in alloc;
+        "run --steps {steps} g => 0 exit 0$ => {digits}$"
+    );
+    expect_command(rt, alloc, files, ends.expect(rt, digits).as_str());
+    let goes_on: Result<String, AllocError> = format!(in alloc;
+        "run --steps {fewer} g => 10 budget {fewer}$ => {digits}$"
+    );
+    expect_command(rt, alloc, files, goes_on.expect(rt, digits).as_str());
+}
+
+/// `selftest` evaluates and compiles the program of each row, and its image prints the same digits, twice alike; the
+/// steps that it tells are the least with which the image ends.
+#[test]
+fn tests_generated_programs(rt: HostRuntime) {
+    let alloc = rt.alloc();
+    for row in rows_of(&rt, PROGRAMS) {
+        let (number, told) = cells(&rt, row);
+        let (_, digits) = told.rsplit_once(" ").expect(&rt, row);
+        let mut files = no_files(&rt, alloc, 0);
+        let steps = expect_selftest(&rt, alloc, &mut files, number, digits);
+        let again = expect_selftest(&rt, alloc, &mut files, number, digits);
+        expect(&rt, &again, &steps, row);
+        expect_steps(&rt, alloc, &mut files, steps, digits);
+    }
+}
+
+/// Of the writes of `selftest` the one with this number fails: the first line stands on the output, and the file is
+/// told.
+fn expect_refused(rt: &impl Abort, alloc: Global, failing: u64, line: &str) {
+    let mut files = no_files(rt, alloc, failing);
+    let answer = run_line(rt, alloc, "selftest -o g 1", &mut files, 0);
+    expect_answer(rt, &answer, "eval 849c5e22 exit 0\n", 5, line, line);
+    expect(rt, &files.content("g.map").is_some(), &(failing == 2), line);
+    expect(rt, &files.content("g").is_none(), &true, line);
+}
+
+/// A file or an output that fails is told, and nothing behind it is done.
+#[test]
+fn tells_a_refused_selftest(rt: HostRuntime) {
+    let alloc = rt.alloc();
+    expect_refused(&rt, alloc, 1, "write fault g.map\n");
+    expect_refused(&rt, alloc, 2, "write fault g\n");
+    let mut files = no_files(&rt, alloc, 0);
+    let answer = run_refused(&rt, alloc, "selftest -o g 1", &mut files);
+    expect_answer(&rt, &answer, "", 5, "write fault output\n", "the output");
+    expect(&rt, &files.content("g.map").is_none(), &true, "the map");
 }

@@ -7,7 +7,8 @@ use Rattle.pcc_words.specs.App.{app, u32_max, u64_max}
 use Rattle.pcc_words.specs.Asked.{Command, Compile, ManyFiles, Usage, HasFewSources, asked_by}
 use Rattle.pcc_words.specs.Asked.{asked_in, asked_unless, clashes, command_of, compile_asked}
 use Rattle.pcc_words.specs.Asked.{eval_asked, eval_command, file_count_limit, number_of, run_asked, run_command}
-use Rattle.pcc_words.specs.Asked.{gen_asked, gen_command, least_asked, solve_asked}
+use Rattle.pcc_words.specs.Asked.{board_asked, board_command, gen_asked, gen_command, least_asked, selftest_asked}
+use Rattle.pcc_words.specs.Asked.{selftest_command, solve_asked}
 
 -- either command
 few_if : (b : Bool) (x y : Command) → HasFewSources x → HasFewSources y → HasFewSources (if b then x else y)
@@ -58,9 +59,25 @@ few_gen : (number : Option Text) → HasFewSources (gen_asked number)
 few_gen (Some number) = few_gen_of (number_of u32_max number)
 few_gen None = tt
 
+few_selftest_of : (name : List ℕ) (number : Option ℕ) → HasFewSources (selftest_command name number)
+few_selftest_of name (Some n) = tt
+few_selftest_of name None = tt
+
+few_selftest : (name number : Option Text) → HasFewSources (selftest_asked name number)
+few_selftest (Some name) (Some number) = few_selftest_of name (number_of u32_max number)
+few_selftest (Some name) None = tt
+few_selftest None number = tt
+
 few_least : (file : Option Text) → HasFewSources (least_asked file)
 few_least (Some file) = tt
 few_least None = tt
+
+few_board_of : (sources : List Text) → HasFewSources (board_command sources)
+few_board_of sources = few_below sources (nat_lt file_count_limit (length sources)) _ refl (λ few. few)
+
+few_board : (sources : Option (List Text)) → HasFewSources (board_asked sources)
+few_board (Some sources) = few_board_of sources
+few_board None = tt
 
 few_by : (command : Text) (rows : List Row) → HasFewSources (asked_by command rows)
 few_by command rows =
@@ -70,7 +87,10 @@ few_by command rows =
     (few_if (bytes_eq command (codes "eval")) _ _ (few_eval (first_of (codes "N") rows) (all_of (codes "SRC") rows))
     (few_if (bytes_eq command (codes "solve")) _ _ (few_solve (first_of (codes "FILE") rows))
     (few_if (bytes_eq command (codes "gen")) _ _ (few_gen (first_of (codes "N") rows))
-    (few_if (bytes_eq command (codes "least")) _ _ (few_least (first_of (codes "FILE") rows)) tt)))))
+    (few_if (bytes_eq command (codes "selftest")) _ _ (few_selftest (first_of (codes "NAME") rows)
+    (first_of (codes "N") rows))
+    (few_if (bytes_eq command (codes "least")) _ _ (few_least (first_of (codes "FILE") rows))
+    (few_if (bytes_eq command (codes "board")) _ _ (few_board (all_of (codes "SRC") rows)) tt)))))))
 
 few_in : (found : Option (Text × List Row)) → HasFewSources (asked_in found)
 few_in (Some matched) = few_by matched.0 matched.1

@@ -65,8 +65,14 @@ solve = with_rule (new_app (codes "solve")) (wanted (codes "FILE"))
 abbrev pub generate : App
 generate = with_rule (new_app (codes "gen")) seed
 
+abbrev pub selftest : App
+selftest = with_rule (with_rule (new_app (codes "selftest")) name) seed
+
 abbrev pub least : App
 least = with_rule (new_app (codes "least")) (wanted (codes "FILE"))
+
+abbrev pub board : App
+board = with_rule (new_app (codes "board")) sources
 
 -- one of the commands is required; the words don't begin with the program's name
 abbrev pub top : App
@@ -90,5 +96,11 @@ with_solve = with_subcommand with_eval solve.top
 abbrev pub with_generate : App
 with_generate = with_subcommand with_solve generate.top
 
+abbrev pub with_selftest : App
+with_selftest = with_subcommand with_generate selftest.top
+
+abbrev pub with_least : App
+with_least = with_subcommand with_selftest least.top
+
 abbrev pub app : App
-app = with_subcommand with_generate least.top
+app = with_subcommand with_least board.top

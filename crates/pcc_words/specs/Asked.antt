@@ -19,8 +19,12 @@ pub data Command : Type 0 where
   Solve : (file : List ℕ) → Command
   -- put the generated program of this number on the output
   Gen : (number : ℕ) → Command
+  -- evaluate the generated program of this number, compile it, write NAME.map and NAME, and run what was written
+  Selftest : (name : List ℕ) (number : ℕ) → Command
   -- remove the fewest pieces of the board of the file, so that the others have a legal placement
   Least : (file : List ℕ) → Command
+  -- compile the sources, and put their map on the output
+  Board : (sources : List (List ℕ)) → Command
   -- there are so many sources, more than are read
   ManyFiles : (count : ℕ) → Command
   -- no command
@@ -80,9 +84,25 @@ abbrev pub gen_asked : Option Text → Command
 gen_asked None = Usage
 gen_asked (Some number) = gen_command (number_of u32_max number)
 
+abbrev pub selftest_command : List ℕ → Option ℕ → Command
+selftest_command name None = Usage
+selftest_command name (Some n) = Selftest name n
+
+abbrev pub selftest_asked : Option Text → Option Text → Command
+selftest_asked (Some name) (Some number) = selftest_command name (number_of u32_max number)
+selftest_asked _ _ = Usage
+
 abbrev pub least_asked : Option Text → Command
 least_asked None = Usage
 least_asked (Some file) = Least file
+
+abbrev pub board_command : List (List ℕ) → Command
+board_command sources =
+    if nat_lt file_count_limit (length sources) then ManyFiles (length sources) else Board sources
+
+abbrev pub board_asked : Option (List Text) → Command
+board_asked None = Usage
+board_asked (Some sources) = board_command sources
 
 -- the command of this name, by the matches of its arguments
 abbrev pub asked_by : Text → List Row → Command
@@ -92,7 +112,10 @@ asked_by command rows =
     else if bytes_eq command (codes "eval") then eval_asked (first_of (codes "N") rows) (all_of (codes "SRC") rows)
     else if bytes_eq command (codes "solve") then solve_asked (first_of (codes "FILE") rows)
     else if bytes_eq command (codes "gen") then gen_asked (first_of (codes "N") rows)
-    else if bytes_eq command (codes "least") then least_asked (first_of (codes "FILE") rows) else Usage
+    else if bytes_eq command (codes "selftest") then
+      selftest_asked (first_of (codes "NAME") rows) (first_of (codes "N") rows)
+    else if bytes_eq command (codes "least") then least_asked (first_of (codes "FILE") rows)
+    else if bytes_eq command (codes "board") then board_asked (all_of (codes "SRC") rows) else Usage
 
 abbrev pub asked_in : Option (Text × List Row) → Command
 asked_in None = Usage
@@ -107,6 +130,7 @@ asked_unless (kind ∷ kinds) found = Usage
 abbrev pub HasFewSources : Command → Type 0
 HasFewSources (Compile name sources) = length sources ≤ file_count_limit
 HasFewSources (Eval turns sources) = length sources ≤ file_count_limit
+HasFewSources (Board sources) = length sources ≤ file_count_limit
 HasFewSources _ = ⊤
 
 -- the words are those behind the program's name

@@ -145,6 +145,21 @@ fn generate<'a>(alloc: Global) -> Result<Command<'a>, AllocError>
     )
 }
 
+/// `selftest -o NAME N`
+fn selftest<'a>(alloc: Global) -> Result<Command<'a>, AllocError>
+    ensures { IfOk result (λ c. (app_of c ≡ apps.selftest) × ((out-Command c).has_globals ≡ false)) }
+{
+    match begun(
+        alloc,
+        "selftest",
+        "Evaluates and compiles the generated C program of a number, and runs its image",
+        name(alloc),
+    ) {
+        Ok(command) => command.arg(seed(alloc)),
+        Err(error) => Err(error),
+    }
+}
+
 /// `least FILE`
 fn least<'a>(alloc: Global) -> Result<Command<'a>, AllocError>
     ensures { IfOk result (λ c. (app_of c ≡ apps.least) × ((out-Command c).has_globals ≡ false)) }
@@ -154,6 +169,18 @@ fn least<'a>(alloc: Global) -> Result<Command<'a>, AllocError>
         "least",
         "Prints the fewest pieces without which a board is solvable, and a placement of the others",
         wanted(alloc, "FILE", ArgAction::Set, "The text of a board"),
+    )
+}
+
+/// `board SRC..`
+fn board<'a>(alloc: Global) -> Result<Command<'a>, AllocError>
+    ensures { IfOk result (λ c. (app_of c ≡ apps.board) × ((out-Command c).has_globals ≡ false)) }
+{
+    begun(
+        alloc,
+        "board",
+        "Prints the map of C files: the board of each point, and where variables are",
+        sources(alloc),
     )
 }
 
@@ -188,5 +215,7 @@ pub fn app<'a>(alloc: Global) -> Result<Command<'a>, AllocError>
     let with_eval = with_command(with_run, eval(alloc));
     let with_solve = with_command(with_eval, solve(alloc));
     let with_generate = with_command(with_solve, generate(alloc));
-    with_command(with_generate, least(alloc))
+    let with_selftest = with_command(with_generate, selftest(alloc));
+    let with_least = with_command(with_selftest, least(alloc));
+    with_command(with_least, board(alloc))
 }

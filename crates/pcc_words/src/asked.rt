@@ -21,6 +21,8 @@ ghost use Rattle.clap.specs.declared.error.kind.ErrorKind.TheVariants.{OutOfMemo
 ghost use Rattle.pcc_words.specs.Asked.{
   asked_by,
   asked_in,
+  board_asked,
+  board_command,
   clashes,
   command_of,
   compile_asked,
@@ -35,6 +37,8 @@ ghost use Rattle.pcc_words.specs.Asked.{
   number_of,
   run_asked,
   run_command,
+  selftest_asked,
+  selftest_command,
   solve_asked,
   Usage,
 };
@@ -76,7 +80,9 @@ Commands:
   pcc eval [--turns N] SRC..  evaluates C files
   pcc solve FILE              prints a legal placement of a board's pieces, or `none`
   pcc gen N                   prints the generated C program of the number N
+  pcc selftest -o NAME N      evaluates and compiles that program, and runs its image, NAME
   pcc least FILE              prints the fewest pieces without which a board is solvable, and places the others
+  pcc board SRC..             prints the map of C files, with the board of each point
 ";
 
 /// No command, and what is told instead.
@@ -240,6 +246,29 @@ fn gen_asked<'a>(alloc: Global, matches: &ArgMatches<'a>) -> Result<Command<'a>,
     }
 }
 
+/// `selftest`, where the number has 32 bits.
+#[tactic(auto, using(crate::proofs::Numbers::word_is, crate::proofs::Numbers::no_word))]
+fn selftest_of<'a>(alloc: Global, name: &'a str, number: &str) -> Result<Command<'a>, NoMemory>
+    ensures { IfOk result (λ c. meaning c ≡ selftest_command name.now (number_of u32_max number.now)) }
+{
+    match number.parse::<u32>() {
+        Ok(number) => Ok(Command::Selftest { name, number }),
+        Err(_) => usage(alloc, "N is a number of 32 bits"),
+    }
+}
+
+/// The matches of `selftest`.
+#[tactic(auto, using(crate::proofs::Rows::str_row, crate::proofs::Rows::strs_row))]
+fn selftest_asked<'a>(alloc: Global, matches: &ArgMatches<'a>) -> Result<Command<'a>, NoMemory>
+    ensures { IfOk result (λ c. meaning c ≡ selftest_asked (first_of (codes "NAME") (rows_of (found_of matches.now)))
+        (first_of (codes "N") (rows_of (found_of matches.now)))) }
+{
+    match (matches.get_str("NAME"), matches.get_str("N")) {
+        (Some(name), Some(number)) => selftest_of(alloc, name, number),
+        _ => usage(alloc, "NAME and N are wanted"),
+    }
+}
+
 /// The matches of `least`.
 #[tactic(auto, using(crate::proofs::Rows::str_row, crate::proofs::Rows::strs_row))]
 fn least_asked<'a>(alloc: Global, matches: &ArgMatches<'a>) -> Result<Command<'a>, NoMemory>
@@ -248,6 +277,28 @@ fn least_asked<'a>(alloc: Global, matches: &ArgMatches<'a>) -> Result<Command<'a
     match matches.get_str("FILE") {
         Some(file) => Ok(Command::Least { file }),
         None => usage(alloc, "FILE is wanted"),
+    }
+}
+
+/// `board`.
+fn board_of<'a>(alloc: Global, sources: &[&'a str]) -> Result<Command<'a>, NoMemory>
+    ensures { IfOk result (λ c. meaning c ≡ board_command (map (λ s. s.now) sources.now)) }
+{
+    if are_many(sources) {
+        return Ok(Command::ManyFiles(sources.len()));
+    }
+    let sources = copied(alloc, sources)?;
+    Ok(Command::Board { sources })
+}
+
+/// The matches of `board`.
+#[tactic(auto, using(crate::proofs::Rows::str_row, crate::proofs::Rows::strs_row))]
+fn board_asked<'a>(alloc: Global, matches: &ArgMatches<'a>) -> Result<Command<'a>, NoMemory>
+    ensures { IfOk result (λ c. meaning c ≡ board_asked (all_of (codes "SRC") (rows_of (found_of matches.now)))) }
+{
+    match matches.get_strs("SRC") {
+        Some(sources) => board_of(alloc, sources),
+        None => usage(alloc, "SRC is wanted"),
     }
 }
 
@@ -265,7 +316,9 @@ fn asked_by<'a>(
         "eval" => eval_asked(alloc, matches),
         "solve" => solve_asked(alloc, matches),
         "gen" => gen_asked(alloc, matches),
+        "selftest" => selftest_asked(alloc, matches),
         "least" => least_asked(alloc, matches),
+        "board" => board_asked(alloc, matches),
         _ => usage(alloc, "a command is wanted"),
     }
 }

@@ -26,9 +26,18 @@ pub enum Command<'a> {
     Gen {
         number: u32,
     },
+    /// `selftest -o NAME N`: evaluate and compile the generated program of the number, and run its image, NAME.
+    Selftest {
+        name: &'a str,
+        number: u32,
+    },
     /// `least FILE`: remove the fewest pieces of the board of the file.
     Least {
         file: &'a str,
+    },
+    /// `board SRC..`: compile the sources, and put their map on the output.
+    Board {
+        sources: Vec<&'a str>,
     },
     /// There are so many sources, more than are read.
     ManyFiles(usize),
