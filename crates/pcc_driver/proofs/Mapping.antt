@@ -1,7 +1,6 @@
 -- What is told of a map that was put, and of sources without a typed program.
 use Rattle.std.proofs.Common.{◌≡◌, ◌∙◌, ℕ, List, ap, subst, refl}
 use Rattle.c_tree.specs.Program.{Program}
-use Rattle.map_text.specs.Words.{map_text}
 use Rattle.pcc_driver.specs.Answers.{AnswerPut, MapPut, MapTold, ProgramPut}
 use Rattle.pcc_driver.specs.Outside.{Files, Output}
 use Rattle.pcc_driver.specs.Programs.{HaveNoProgram, HaveTypedProgram}

@@ -12,7 +12,7 @@ use Rattle.ia32_machine.specs.First.{First}
 use Rattle.ia32_machine.specs.declared.ends.MachineEnd.{MachineEnd}
 use Rattle.ia32_machine.specs.declared.ends.MachineEnd.TheVariants as machine
 use Rattle.elf_image.specs.Segments.{Segments, Loads}
-use Rattle.map_text.specs.Lines.{map_text}
+use Rattle.map_text.specs.Words.{map_text}
 use Rattle.map_text.specs.Maps as maps
 use Rattle.pcc_program.specs.Products.{IsImageOf}
 use Rattle.pcc_words.specs.Asked.{map_name}
