@@ -1,8 +1,9 @@
 -- The text of functions, and that of a whole map.
-use Rattle.std.proofs.Common.{◌≡◌, ◌<◌, ◌≤◌, ℕ, zero, suc, ◌+◌, List, [], ◌∷◌, ◌++◌, drop, get_or, length, map, Some, refl}
+use Rattle.std.proofs.Common.{◌≡◌, ◌<◌, ◌≤◌, ℕ, suc, ◌+◌, List, [], ◌∷◌, ◌++◌, drop, get_or, length, map, Some}
 use Rattle.std.proofs.Common.{sym, ap, subst, ◌∙◌, arith, append_assoc}
 use Rattle.std.specs.Prelude.{option_map, slice_get, slice_index, slice_index_or}
 use Rattle.std.specs.List.{AllByRecursion, flat_map}
+use Rattle.std.proofs.Math.ListN.{drop_of_length-le}
 use Rattle.std.proofs.lemmas.List.{append-nil, drop_more}
 use Rattle.std.proofs.lemmas.List.Concat.{flat_map-append}
 use Rattle.std.proofs.lemmas.Option.{slice_get-get_or, slice_get-map}
@@ -88,14 +89,8 @@ pub functions-past : (text : Line → List ℕ) (start old : List ℕ) (fs : Lis
 functions-past text start old fs n flows homes addresses past all =
     sym (append-nil old)
     ∙ ap (λ (xs : List built.Function). old ++ flat_map text (numbered function_lines n
-    (functions_over n (map function_of xs) flows homes addresses))) (sym (dropped fs n past))
+    (functions_over n (map function_of xs) flows homes addresses))) (sym (drop_of_length-le fs past))
     ∙ all
-  where
-    dropped : {X : Type 0} (xs : List X) (k : ℕ) → length xs ≤ k → drop k xs ≡ []
-    dropped [] zero h = refl
-    dropped [] (suc k) h = refl
-    dropped (x ∷ xs) zero h = absurd (omega (arith, h))
-    dropped (x ∷ xs) (suc k) h = dropped xs k (omega (arith, h))
 
 -- a map's first line, its objects, its functions and its last line
 pub map-put : (text : Line → List ℕ) (m : Map) (one two three four : List ℕ) → one ≡ [] ++ text TitleLine
