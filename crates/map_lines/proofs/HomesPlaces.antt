@@ -122,7 +122,7 @@ later-place e f entries above at =
     ∙ at
 
 -- what holds of a variable and its place holds of each entry, where they ascend
-each-entry : (P : Entry → Type 0) (entries : List Entry) → IsAscending (map (λ x. x.0) entries)
+pub each-entry : (P : Entry → Type 0) (entries : List Entry) → IsAscending (map (λ x. x.0) entries)
     → ((e : Entry) → place_in entries e.0 ≡ Some e.1 → P e) → AllByRecursion P entries
 each-entry P [] rising each = tt
 each-entry P (e ∷ entries) rising each = (

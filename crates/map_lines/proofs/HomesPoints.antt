@@ -33,7 +33,7 @@ blocks-joined flow home address (points ∷ blocks) =
     ∙ sym (map-append (λ (p : ℕ). point_at flow home address p) points (flat_map (λ (ps : List ℕ). ps) blocks))
 
 -- they are those of all blocks of its graph
-points-are : (f : Function) (flow : Flow) (home : Home) (address : ℕ → ℕ)
+pub points-are : (f : Function) (flow : Flow) (home : Home) (address : ℕ → ℕ)
     → points_of (function_over f flow home address) ≡ map (λ p. point_at flow home address p) (all_points flow)
 points-are f flow home address = blocks-joined flow home address flow.blocks
 

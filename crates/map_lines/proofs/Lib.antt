@@ -39,6 +39,4 @@ pub mod HomesBoards
 pub mod HomesObjects
 pub mod HomesRules
 pub mod ToldSlots
-pub mod LivePlaces
-pub mod HomePoints
 pub mod ToldHomes
