@@ -1,13 +1,14 @@
 //! Comparisons of two words where they stand, the number that a condition gives, and jumps.
 
-ghost use Rattle.std.specs.Prelude.{◌≡◌, ◌++◌, [], OnOk};
+ghost use Rattle.std.specs.Prelude.{◌≡◌, ◌++◌, OnOk, map};
 ghost use Rattle.ia32_insn.specs.declared.insn.AluOp.TheVariants as alu;
+ghost use Rattle.ia32_insn.specs.declared.item.Item.TheVariants as item;
 ghost use Rattle.ia32_insn.specs.declared.register_names.Reg32.TheVariants.{Esi};
 ghost use Rattle.ia32_rows.specs.Rows.{operate, read, comparing, set_row, jumping, same_row};
 ghost use Rattle.ia32_emit.specs.Locations.{place_of};
 ghost use Rattle.ia32_emit.specs.declared.locations.Location.TheVariants as location;
 
-use crate::instructions::{emit, emit_all, emit_three, emit_two};
+use crate::instructions::{emit, emit_all, emit_insns, emit_three, emit_two};
 use crate::locations::{Location, at_offset, low_byte};
 use crate::moves::{emit_operate, emit_read};
 use ia32_insn::{AluOp, Cond, Insn, Item, Reg32, Rm8, Rm32};
@@ -88,10 +89,11 @@ pub fn emit_truth(out: &mut Vec<Item>, condition: Cond, to: Location) -> Result<
     }
 }
 
-/// To a label, with nothing to move on the way.
-pub fn emit_jump(out: &mut Vec<Item>, label: u32) -> Result<(), NoMemory>
-    ensures { OnOk result (out.new.items ≡ out.old.items ++ jumping [] label) }
+/// To a label, through the moves on the way there.
+pub fn emit_jump(out: &mut Vec<Item>, moves: &[Insn], label: u32) -> Result<(), NoMemory>
+    ensures { OnOk result (out.new.items ≡ out.old.items ++ jumping (map item.Plain moves.now) label) }
 {
+    emit_insns(out, moves)?;
     emit_all(out, &[Item::JumpTo(label)])
 }
 

@@ -1,7 +1,8 @@
 //! Items as they are.
 
-ghost use Rattle.std.specs.Prelude.{◌≡◌, ◌∷◌, [], ◌++◌, OnOk};
+ghost use Rattle.std.specs.Prelude.{◌≡◌, ◌∷◌, [], ◌++◌, OnOk, map};
 ghost use Rattle.ia32_insn.specs.Items.{plain};
+ghost use Rattle.ia32_insn.specs.declared.item.Item.TheVariants as item;
 
 use ia32_insn::{Insn, Item};
 use pcc_base::NoMemory;
@@ -19,6 +20,16 @@ pub fn emit(out: &mut Vec<Item>, insn: Insn) -> Result<(), NoMemory>
     ensures { OnOk result (out.new.items ≡ out.old.items ++ plain insn ∷ []) }
 {
     emit_all(out, &[Item::Plain(insn)])
+}
+
+/// These instructions, in their order.
+pub fn emit_insns(out: &mut Vec<Item>, insns: &[Insn]) -> Result<(), NoMemory>
+    ensures { OnOk result (out.new.items ≡ out.old.items ++ map item.Plain insns.now) }
+{
+    for insn in insns {
+        emit(out, *insn)?;
+    }
+    Ok(())
 }
 
 /// Two more instructions.

@@ -30,7 +30,7 @@ pub use argument_words::{emit_exit, emit_getchar, emit_param, emit_putchar};
 pub use calls::emit_call;
 pub use compared_words::{emit_jump, emit_same};
 pub use comparisons::{emit_branch, emit_set};
-pub use instructions::{emit, emit_three, emit_two};
+pub use instructions::{emit, emit_insns, emit_three, emit_two};
 pub use loads::{emit_get, emit_load};
 pub use locations::{Location, at_offset, at_register};
 pub use moves::{

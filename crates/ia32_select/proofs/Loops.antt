@@ -18,7 +18,8 @@ drop-from [] k x e = absurd (none-some x e)
 drop-from (y ∷ xs) zero x e = ap (λ a. a ∷ xs) (same_Some y x e)
 drop-from (y ∷ xs) (suc k) x e = drop-from xs k x e
 
-drop-here : {A : Type 0} (xs : List A) (k : ℕ) (x : A) → slice_get xs k ≡ Some x → drop k xs ≡ x ∷ drop (k + 1) xs
+-- the same, with the next number as a sum
+pub drop-here : {A : Type 0} (xs : List A) (k : ℕ) (x : A) → slice_get xs k ≡ Some x → drop k xs ≡ x ∷ drop (k + 1) xs
 drop-here xs k x e =
     let one : suc k ≡ k + 1 = omega arith in drop-from xs k x e ∙ ap (λ n. x ∷ drop n xs) one
 
@@ -50,7 +51,8 @@ array-computed header z low high e =
 
 -- ---- lists
 
-numbers-more : (a n : ℕ) → range_with_len a n ++ (a + n) ∷ [] ≡ range_with_len a (suc n)
+-- one number more behind those from one on
+pub numbers-more : (a n : ℕ) → range_with_len a n ++ (a + n) ∷ [] ≡ range_with_len a (suc n)
 numbers-more a zero = let e : a + 0 ≡ a = omega arith in ap (λ (k : ℕ). k ∷ []) e
 numbers-more a (suc n) =
     let e : a + suc n ≡ a + 1 + n = omega arith in

@@ -15,7 +15,7 @@ pub fn jump(out: &mut Vec<Item>, site: &Site<'_>, point: u32, block: u32) -> Res
     ensures { OnOk result (out.new.items ≡ out.old.items
         ++ jumping (moves_into (flow_of site.now) (placement_of site.now) point block) block) }
 {
-    emit_jump(out, block)
+    emit_jump(out, &[], block)
 }
 
 /// From a point to one block where two variables compare so, to the other where they don't; variables that have slots
@@ -35,5 +35,15 @@ pub fn branch(
         (place_of_variable site.now second.now) (moves_into (flow_of site.now) (placement_of site.now) point taken)
         (moves_into (flow_of site.now) (placement_of site.now) point other) taken other) }
 {
-    emit_branch(out, how, at(site, first), at(site, second), taken, other)
+    emit_branch(
+        out,
+        how,
+        0,
+        at(site, first),
+        at(site, second),
+        &[],
+        &[],
+        taken,
+        other,
+    )
 }

@@ -13,15 +13,28 @@
 mod arrays;
 mod blocks;
 mod branches;
+mod edges;
+mod exits;
 mod frame;
 mod frame_laws;
 mod function;
 mod headers;
+mod move_table;
 mod ops;
 mod ops_by_number;
+mod placed_blocks;
+mod placed_branches;
+mod placed_frame;
+mod placed_headers;
+mod placed_operands;
+mod placed_ops;
+mod placed_site;
+mod places;
 mod selection;
 mod site;
 mod size_laws;
+mod stretch;
+mod table_of_moves;
 
 pub use branches::{branch, jump};
 pub use frame::Frame;

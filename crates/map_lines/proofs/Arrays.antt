@@ -29,7 +29,7 @@ use Rattle.ia32_laws.proofs.Zones.{activation-at, calls-above, frame_size}
 use Rattle.map_text.specs.Maps.{Map, MapArray, MapObject}
 use Rattle.map_text.specs.Marks.{Frame, array_in, array_named, arrays_below, arrays_of, in_frame, named_in_frames}
 use Rattle.map_text.specs.Marks.{objects_of, place_of, static_or}
-use Rattle.map_lines.specs.Belongs.{arrays_at, objects_at}
+use Rattle.map_lines.specs.Parts.{arrays_at, objects_at}
 use Rattle.map_lines.specs.VisitsLaws.{frames_at}
 use Rattle.map_lines.proofs.Found.{has-function, numbered}
 use Rattle.map_lines.proofs.Tells.{Tells}

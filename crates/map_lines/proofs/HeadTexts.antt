@@ -26,7 +26,7 @@ use Rattle.lower_lines.specs.Shown.{local_widths, type_widths}
 use Rattle.map_text.specs.Maps.{MapVariable}
 use Rattle.map_text.specs.Words.{ArrayLine, Line, ObjectLine, VariableLine, array_lines, numbered, object_lines}
 use Rattle.map_text.specs.Words.{variable_lines}
-use Rattle.map_lines.specs.Belongs.{arrays_at, local_variables, objects_at, temporary, typed_variables}
+use Rattle.map_lines.specs.Parts.{arrays_at, local_variables, objects_at, temporary, typed_variables}
 use Rattle.map_lines.proofs.Texts.{made-put, next-put, one_put, text-both}
 
 -- ---- objects

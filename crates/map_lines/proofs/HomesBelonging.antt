@@ -17,7 +17,7 @@ use Rattle.ia32_laws.specs.StandingLaws.{IsSelected, MarksAreNops}
 use Rattle.map_text.specs.Maps.{MapFunction, MapPoint, points_of}
 use Rattle.map_text.specs.Marks.{MarkAt, mark_at, marks_from}
 use Rattle.map_lines.specs.MapOf.{Home, function_over, functions_over}
-use Rattle.map_lines.specs.MapLaws.{HomesMapBelongs}
+use Rattle.map_lines.specs.MapLaws.{MapBelongs}
 use Rattle.map_lines.proofs.Blocks.{placed-in}
 use Rattle.map_lines.proofs.HomesMarks.{functions-all, mark_made, points-all}
 use Rattle.map_lines.proofs.HomesPoints.{each-point, function-from, op-there}
@@ -66,7 +66,7 @@ function-nops nops program homes code k x selected at =
     (subst (λ (w : Flow). Stands w p b) (sym whole) stands)
     (ap (λ (w : Flow). slice_get w.ops p) whole ∙ has) refl))))
 
-pub belongs : MarksAreNops → HomesMapBelongs
+pub belongs : MarksAreNops → MapBelongs
 belongs nops program homes code is =
     let xs = functions_over 0 program.functions code.program.functions homes (point_address code) in
     record {

@@ -19,7 +19,7 @@ use Rattle.map_text.specs.Maps.{Map, MapFunction, MapPoint, MapVariable, Standin
 use Rattle.map_text.specs.Marks.{listed, locals_before, mark_at, marks_of, name_in, part_named, part_of}
 use Rattle.map_text.specs.Marks.{variables_in, variables_of}
 use Rattle.map_lines.specs.MapOf.{Home, function_over, variables_over}
-use Rattle.map_lines.specs.MapLaws.{HomesMapListsLocals, map_in}
+use Rattle.map_lines.specs.MapLaws.{MapListsLocals, map_in}
 use Rattle.map_lines.proofs.HomesMarks.{ShowsParts, filter-all, functions-all, listed-all, mark_made, points-all}
 use Rattle.map_lines.proofs.HomesPoints.{each-point, function-from}
 use Rattle.map_lines.proofs.OwnedVariables.{variable-part}
@@ -90,6 +90,6 @@ lists-own program homes code typed marks statement =
     (functions-all (ShowsParts (IsLocal program statement) m statement) 0 m.functions
     (λ k x at. function-lists program homes code typed marks statement k x at))
 
-pub lists-locals : HomesMapListsLocals
+pub lists-locals : MapListsLocals
 lists-locals program code m typed shapes marks is =
     subst (λ (x : Map). ListsLocals program (listed x)) (sym is.is) (lists-own program is.homes code typed marks)

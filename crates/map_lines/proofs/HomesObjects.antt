@@ -28,8 +28,8 @@ use Rattle.ia32_laws.specs.Supports.{AreArraysIn, size_of}
 use Rattle.ia32_laws.proofs.Objects.{object-in}
 use Rattle.ia32_laws.specs.StandingLaws.{IsSelected}
 use Rattle.map_text.specs.Maps.{IsMapArray, IsMapObject, IsMapVariable}
-use Rattle.map_lines.specs.Belongs.{arrays_at, local_variables, objects_at, temporary, typed_variables}
-use Rattle.map_lines.specs.Laws.{IsNamedFunction}
+use Rattle.map_lines.specs.Parts.{arrays_at, local_variables, objects_at, temporary, typed_variables}
+use Rattle.map_lines.specs.MapLaws.{IsNamedFunction}
 use Rattle.map_lines.specs.MapOf.{variables_over}
 
 -- ---- objects and arrays

@@ -12,9 +12,9 @@ use Rattle.flow_graph.specs.Graphs as graphs
 use Rattle.flow_graph.specs.Graphs.{FitsOp, Flow, HasFittingOp, IsFlow, IsIn, IsPlaced}
 use Rattle.flow_graph.proofs.Points.{every-from, every-in}
 use Rattle.map_text.specs.Maps.{Map, MapFunction, MapPoint, points_of}
-use Rattle.map_lines.specs.Belongs.{arrays_at, objects_at}
+use Rattle.map_lines.specs.Parts.{arrays_at, objects_at}
 use Rattle.map_lines.specs.MapOf.{Home, block_over, function_over, functions_over, point_over, variables_over}
-use Rattle.map_lines.specs.MapLaws.{HomesMapBySameAddresses}
+use Rattle.map_lines.specs.MapLaws.{MapBySameAddresses}
 use Rattle.map_lines.proofs.Blocks.{all_points, in-back, in-front, placed-in}
 use Rattle.ia32_placements.specs.Placed.{arrays_in}
 
@@ -192,7 +192,7 @@ functions-same k (f ∷ fs) (flow ∷ flows) (h ∷ homes) one other same =
     subst (λ (n : ℕ). one n p ≡ other n p) next (same (suc j) p w at placed))))
 
 -- the map is the same where the points have the same addresses
-pub map-same : HomesMapBySameAddresses
+pub map-same : MapBySameAddresses
 map-same program flows homes objects one other same =
     ap (λ (fs : List MapFunction).
     let m : Map = record { objects = objects_at program.objects objects; functions = fs } in

@@ -22,10 +22,10 @@ use Rattle.ia32_placements.specs.Placed.{arrays_in}
 use Rattle.map_text.specs.Maps.{IsMapArray, IsMapObject, IsMapOp, Map, MapFunction}
 use Rattle.map_text.specs.Maps.{flow_of, points_of}
 use Rattle.map_text.specs.Rules.{IsMapBlock, IsMapFunction, IsMapPoint}
-use Rattle.map_lines.specs.Belongs.{arrays_at}
-use Rattle.map_lines.specs.Laws.{IsNamedFunction}
+use Rattle.map_lines.specs.Parts.{arrays_at}
+use Rattle.map_lines.specs.MapLaws.{IsNamedFunction}
 use Rattle.map_lines.specs.MapOf.{Home, IsHome, block_over, function_over, point_over, variables_over}
-use Rattle.map_lines.specs.MapLaws.{HomesMapKeepsRules, IsOverHomes, map_in}
+use Rattle.map_lines.specs.MapLaws.{MapKeepsRules, IsOverHomes, map_in}
 use Rattle.map_lines.proofs.Blocks.{all-distinct, all_points, placed-in}
 use Rattle.map_lines.proofs.HomesBelonging.{flow-is, graph-of}
 use Rattle.map_lines.proofs.HomesBoards.{blocks-ruled, fits-as, four-areas, has-numbers, pieces-ordered, pieces-ruled}
@@ -200,7 +200,7 @@ all-functions : (P : MapFunction → Type 0) (xs : List MapFunction)
     → ((j : ℕ) (x : MapFunction) → slice_get xs j ≡ Some x → P x) → All P xs
 all-functions P xs each = All-from_recursion P xs (every-at P xs each)
 
-pub keeps-rules : PointsStand → HomesMapKeepsRules
+pub keeps-rules : PointsStand → MapKeepsRules
 keeps-rules stand program homes code is named =
     let m = map_in program homes code in
     let fs = program.functions in

@@ -1,19 +1,7 @@
-pub mod Lists
-pub mod Counting
-pub mod Lines
-pub mod Showing
-pub mod Whole
 pub mod Blocks
-pub mod TextPoints
-pub mod Standings
 pub mod OwnedVariables
 pub mod Owners
-pub mod Functions
 pub mod OnceMarked
-pub mod Marking
-pub mod Belonging
-pub mod Rules
-pub mod Listing
 pub mod Among
 pub mod Tells
 pub mod Between
@@ -38,5 +26,4 @@ pub mod HomesPlaces
 pub mod HomesBoards
 pub mod HomesObjects
 pub mod HomesRules
-pub mod ToldSlots
 pub mod ToldHomes

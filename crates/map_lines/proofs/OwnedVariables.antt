@@ -20,7 +20,7 @@ use Rattle.flow_graph.specs.Graphs.{Flow}
 use Rattle.lower_lines.specs.Shown.{HasLocal, IsInteger, IsPartOf, IsPointer, local_widths, type_widths}
 use Rattle.map_text.specs.Maps.{MapVariable, Named, NamesScalar, NamesArray, NamesIndex, Temporary}
 use Rattle.map_text.specs.Marks.{begins_local, locals_before, name_in, part_named}
-use Rattle.map_lines.specs.Belongs.{local_variables, temporary, typed_variables}
+use Rattle.map_lines.specs.Parts.{local_variables, temporary, typed_variables}
 use Rattle.map_lines.specs.MapOf.{variables_over}
 
 abbrev pub width_of : MapVariable → Width

@@ -13,7 +13,7 @@ use Rattle.ia32_rows.specs.Placements.{Code, Placement, placement_of, point_addr
 use Rattle.ia32_laws.specs.StandingLaws.{IsSelected}
 use Rattle.map_text.specs.Maps.{Map, MapFunction, MapPoint, Standing, points_of}
 use Rattle.map_text.specs.Marks.{MarkAt, marks_of}
-use Rattle.map_lines.specs.Belongs.{arrays_at, local_variables, objects_at, temporary}
+use Rattle.map_lines.specs.Parts.{arrays_at, local_variables, objects_at, temporary}
 use Rattle.map_lines.proofs.Among.{IsAmong}
 
 -- a mark is of a statement of its function, and what it lists stands in the places that it names

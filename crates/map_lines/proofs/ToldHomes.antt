@@ -21,8 +21,8 @@ use Rattle.ia32_placements.proofs.Supported.{stands-before}
 use Rattle.map_text.specs.Entries.{place_of, standing_of, standings_of}
 use Rattle.map_text.specs.Maps.{Map, MapFunction, MapPoint, Standing, points_of}
 use Rattle.map_text.specs.Marks.{MarkAt, mark_at, marks_of}
-use Rattle.map_lines.specs.Belongs.{arrays_at}
-use Rattle.map_lines.specs.MapLaws.{HasMapOf, HomesMapShowsVisits}
+use Rattle.map_lines.specs.Parts.{arrays_at}
+use Rattle.map_lines.specs.MapLaws.{HasMap, MapShowsVisits}
 use Rattle.map_lines.specs.MapOf.{Home, IsHome, function_over, functions_over, map_of}
 use Rattle.map_lines.proofs.Among.{IsAmong, IsPointAt, all-among, mark-from}
 use Rattle.map_lines.proofs.Blocks.{all_points, in-placed, placed-in}
@@ -184,7 +184,7 @@ same-point flows homes addresses k l p q one two same number =
 -- ---- the map
 
 -- of a statement it has one mark at most
-one-mark : (program : Program) (code : Code) (m : Map) (h : HasMapOf program code m) (a b : MarkAt)
+one-mark : (program : Program) (code : Code) (m : Map) (h : HasMap program code m) (a b : MarkAt)
     → IsAmong a (marks_of (map_of program code.program.functions h.belongs.homes code.symbols.objects
     (point_address code)))
     → IsAmong b (marks_of (map_of program code.program.functions h.belongs.homes code.symbols.objects
@@ -218,7 +218,7 @@ one-mark program code m h a b one two same =
         there.has ∙ ap Some (sym there.read ∙ ap (λ (x : MapPoint). x.op) over.is ∙ is)
 
 -- what it tells
-told : (program : Program) (code : Code) (m : Map) (h : HasMapOf program code m)
+told : (program : Program) (code : Code) (m : Map) (h : HasMap program code m)
     → All (λ mark. IsAt code.text mark.address (0x90 ∷ []))
     (marks_of (map_of program code.program.functions h.belongs.homes code.symbols.objects (point_address code)))
     → Tells program code
@@ -254,7 +254,7 @@ told program code m h nops =
       nops = nops;
     }
 
-pub tells : (program : Program) (code : Code) (m : Map) → HasMapOf program code m → Tells program code m
+pub tells : (program : Program) (code : Code) (m : Map) → HasMap program code m → Tells program code m
 tells program code m h =
     subst (λ (x : Map). Tells program code x) (sym h.belongs.is)
     (told program code m h
@@ -263,5 +263,5 @@ tells program code m h =
 
 -- ---- the law
 
-pub homes-map-shows-visits : HomesMapShowsVisits
-homes-map-shows-visits program code m h = visits-told program code m (tells program code m h)
+pub map-shows-visits : MapShowsVisits
+map-shows-visits program code m h = visits-told program code m (tells program code m h)

@@ -15,7 +15,7 @@ use Rattle.c_tree.specs.WellTyped.{IsScalar}
 use Rattle.lower_lines.specs.Shown.{first_variable, type_widths, variable_part}
 use Rattle.map_text.specs.Maps.{MapVariable, Named, NamesScalar, NamesArray, NamesIndex, Standing, Temporary}
 use Rattle.map_text.specs.Marks.{begins_local, locals_before, name_in, part_named, part_of}
-use Rattle.map_lines.specs.Belongs.{local_variables, temporary, typed_variables}
+use Rattle.map_lines.specs.Parts.{local_variables, temporary, typed_variables}
 
 -- ---- roles
 

@@ -21,7 +21,7 @@ use Rattle.ia32_placements.specs.Placed.{arrays_in, placement_in}
 use Rattle.map_text.specs.Entries.{standings_of}
 use Rattle.map_text.specs.Maps.{Map, MapFunction, MapPoint, MapVariable}
 use Rattle.map_text.specs.Marks.{marks_of}
-use Rattle.map_lines.specs.Belongs.{arrays_at, local_variables, objects_at, temporary}
+use Rattle.map_lines.specs.Parts.{arrays_at, local_variables, objects_at, temporary}
 
 -- what is live in the graph of a function, and where its variables stand
 pub record Home : Type 0 where

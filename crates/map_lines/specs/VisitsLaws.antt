@@ -1,31 +1,18 @@
--- What a map finds in a state of the machine that shows one of its program: frames and their functions, arrays, and the
--- values that a visit shows.
+-- What a map finds in a state of the machine that shows one of its program: frames and their functions, and arrays.
 use Rattle.std.specs.Prelude.{◌≡◌, ◌<◌, ◌≤◌, ◌⊎◌, ℕ, List, [], ◌∷◌, length, Some}
 use Rattle.pcc_base.specs.Outcome.{ArrayName}
 use Rattle.c_tree.specs.Program.{Program}
-use Rattle.c_tree.specs.WellTyped.{WellTyped}
 use Rattle.ia32_insn.specs.State as machine
 use Rattle.flow_graph.specs.Graphs.{Stands}
 use Rattle.flow_graph.specs.States as graph
 use Rattle.flow_graph.specs.States.{Activation, Waiting, active_of, flow_at}
 use Rattle.flow_graph.specs.WellFormed.{IsState, IsWaiting}
-use Rattle.lower_lines.specs.Lowering.{HasObjects, HaveShapes}
-use Rattle.lower_lines.specs.Shown.{variables_shown}
-use Rattle.ia32_rows.specs.Follows.{ShowsVisits}
 use Rattle.ia32_rows.specs.Placements.{Code, point_address}
 use Rattle.ia32_rows.specs.Shows.{IsArrayAt, ReturnsTo, Shows}
 use Rattle.ia32_laws.specs.StandingLaws.{IsSelected}
 use Rattle.map_text.specs.Maps.{Map}
-use Rattle.map_text.specs.Marks.{Frame, MarkAt, array_named, caller_of, frames_of, listed, visits_of}
-use Rattle.map_lines.specs.Belongs.{IsMapOf}
-
--- A map of a typed program and of the code of its graphs, over placements that support them.
-pub record HasMap (program : Program) (code : Code) (m : Map) : Type 0 where
-  pub well_typed : WellTyped program
-  pub is_selected : IsSelected code
-  pub shapes : HaveShapes program code.program
-  pub objects : HasObjects program code.program
-  pub belongs : IsMapOf program code m
+use Rattle.map_text.specs.Marks.{Frame, MarkAt, array_named, caller_of, frames_of}
+use Rattle.map_lines.specs.MapLaws.{HasMap}
 
 -- ---- frames
 
@@ -71,11 +58,3 @@ ArraysFound =
     (array : ArrayName) (word : ℕ) → HasMap program code m → IsState code.program g → (shown : Shows code input g s)
     → IsArrayAt code (active_of g) shown.frames array word
     → array_named m (frames_at (active_of g) shown.frames) word ≡ array
-
--- ---- visits
-
--- At a mark a map shows the statement and the values of the parts of locals that it lists, and nothing elsewhere.
-abbrev pub MapShowsVisits : Type 0
-MapShowsVisits =
-    (program : Program) (code : Code) (m : Map) → HasMap program code m
-    → ShowsVisits code (variables_shown program (listed m)) (visits_of m)

@@ -19,7 +19,7 @@ ghost use Rattle.map_text.specs.Words.{
   variable_lines,
 };
 ghost use Rattle.pcc_base.specs.declared.run.Width.TheVariants.{Two};
-ghost use Rattle.map_lines.specs.Belongs.{arrays_at, local_variables, objects_at, temporary};
+ghost use Rattle.map_lines.specs.Parts.{arrays_at, local_variables, objects_at, temporary};
 ghost use Rattle.map_lines.specs.Printing.{graph_of};
 
 use crate::home::Home;

@@ -1,5 +1,5 @@
 ghost use Rattle.map_lines.specs.VisitsLaws.{NoneBetween, FunctionsFound, FramesFound};
-ghost use Rattle.map_lines.specs.VisitsLaws.{ArraysFound, MapShowsVisits};
+ghost use Rattle.map_lines.specs.VisitsLaws.{ArraysFound};
 
 /// Between a call's point and its return address no point of the program stands, so the function of the point with the
 /// greatest address below the return address is the one that calls. The frames at a mark are those of the active calls,
@@ -13,10 +13,4 @@ pub fn frames_are_found()
 /// The array that is found by its address is that array: a static object, or a frame array of an active call.
 pub fn arrays_are_found()
     ensures { ArraysFound }
-{}
-
-/// At a mark a map of a typed program shows the statement and the values of the parts of locals that it lists, and
-/// nothing elsewhere.
-pub fn visits_are_shown()
-    ensures { MapShowsVisits }
 {}

@@ -1,14 +1,14 @@
-mod Lists
+pub mod Lists
 mod Apart
 mod Beside
 mod Single
-mod Keeping
+pub mod Keeping
 mod Reaching
 mod PlaceKinds
 mod Advancing
 mod Stuck
 mod Counting
-mod Starting
+pub mod Starting
 mod Doing
 mod SpelledCopies
 mod LegalMoves

@@ -43,7 +43,8 @@ turned : (b : Bool) → not b ≡ false → b ≡ true
 turned true e = refl
 turned false e = cc
 
-idle-same : (p q : Place) → AreOneSlot p q → not (is_idle p q) ≡ false → p ≡ q
+-- a move whose slots are one, and that isn't busy, leads to where it comes from
+pub idle-same : (p q : Place) → AreOneSlot p q → not (is_idle p q) ≡ false → p ≡ q
 idle-same (InSlot k) (InSlot j) h e = ap InSlot h
 idle-same (InSlot k) (InWord r) h e = cc
 idle-same (InSlot k) (InByte r) h e = cc

@@ -17,7 +17,7 @@ use ia32_emit::Location;
 use ia32_insn::Insn;
 
 /// Whether a move changes something: its places aren't one.
-fn is_busy(m: Move) -> bool
+pub fn is_busy(m: Move) -> bool
     ensures { result ≡ is_busy m }
 {
     match (m.from, m.to) {

@@ -16,6 +16,6 @@ mod moves;
 mod overlap;
 mod steps;
 
-pub use copies::repair;
+pub use copies::{is_busy, repair};
 pub use legal::can_repair;
 pub use moves::Move;

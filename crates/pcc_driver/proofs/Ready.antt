@@ -4,7 +4,7 @@ use Rattle.pcc_base.specs.Names.{IsName}
 use Rattle.c_tree.specs.Program.{Function, Local, Program}
 use Rattle.pcc_program.specs.Ready.{IsReady}
 use Rattle.c_check_laws.specs.Named.{IsNamed}
-use Rattle.map_lines.specs.Laws.{IsNamedFunction}
+use Rattle.map_lines.specs.MapLaws.{IsNamedFunction}
 use Rattle.pcc_program.specs.Programs.{IsCompilable}
 
 named_function : (f : Function) → IsNamed f → IsNamedFunction f

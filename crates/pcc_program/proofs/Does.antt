@@ -23,8 +23,8 @@ use Rattle.ia32_laws.specs.StandingLaws.{IsSelected}
 use Rattle.ia32_rows.specs.Placements.{Code, objects_of, placement_of, point_address}
 use Rattle.lower_laws.specs.VisitsLaws.{VisitsAreKnown}
 use Rattle.map_lines.specs.declared.home.Home as in_code
-use Rattle.map_lines.specs.MapLaws.{HomesMapBelongs, HomesMapBySameAddresses, HomesMapKeepsRules}
-use Rattle.map_lines.specs.MapLaws.{HomesMapListsLocals, HomesMapShowsVisits, IsOverHomes, map_in}
+use Rattle.map_lines.specs.MapLaws.{MapBelongs, MapBySameAddresses, MapKeepsRules}
+use Rattle.map_lines.specs.MapLaws.{MapListsLocals, MapShowsVisits, IsOverHomes, map_in}
 use Rattle.map_lines.specs.MapOf.{Home, IsHome, map_of}
 use Rattle.map_lines.specs.Printing.{address_in, graph_of, home_of}
 use Rattle.map_text.specs.Maps.{Map}
@@ -45,11 +45,11 @@ pub record Laws : Type 0 where
   pub have_frames : GraphsHaveFrames
   pub selects : MappedIsSelected
   pub right : ProgramsAreRight
-  pub belongs : HomesMapBelongs
-  pub rules : HomesMapKeepsRules
-  pub lists : HomesMapListsLocals
-  pub same : HomesMapBySameAddresses
-  pub shows : HomesMapShowsVisits
+  pub belongs : MapBelongs
+  pub rules : MapKeepsRules
+  pub lists : MapListsLocals
+  pub same : MapBySameAddresses
+  pub shows : MapShowsVisits
   pub known : VisitsAreKnown
   pub does : CompiledDoesAs
 

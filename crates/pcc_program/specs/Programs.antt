@@ -6,7 +6,7 @@ use Rattle.c_tree.specs.WellTyped.{WellTyped}
 use Rattle.c_typing.specs.Typed.{arrays_bytes, most_arrays}
 use Rattle.lower_laws.specs.Declared.{IsDeclaredFirst}
 use Rattle.lower_lines.specs.Words.{IsInMemory}
-use Rattle.map_lines.specs.Laws.{IsNamedFunction}
+use Rattle.map_lines.specs.MapLaws.{IsNamedFunction}
 
 -- A typed program in memory that declares each local before it names it, whose functions and locals have identifiers as
 -- names, and whose static objects are within their limit. Every program that typing accepts is one.

@@ -7,8 +7,8 @@ use crate::compiled_laws::compiled_does_as;
 use ia32_laws::programs_are_right;
 use lower_laws::visits_are_known;
 use map_lines::{
-    homes_map_belongs, homes_map_by_same_addresses, homes_map_keeps_rules, homes_map_lists_locals,
-    homes_map_shows_visits,
+    map_belongs, map_by_same_addresses, map_keeps_rules, map_lists_locals,
+    map_shows_visits,
 };
 
 /// What was linked of a program has a map whose text can be made, and its image does what the program does, as this
@@ -20,11 +20,11 @@ pub(crate) fn linked_does_as()
     graphs_have_frames();
     mapped_is_selected();
     programs_are_right();
-    homes_map_belongs();
-    homes_map_keeps_rules();
-    homes_map_lists_locals();
-    homes_map_by_same_addresses();
-    homes_map_shows_visits();
+    map_belongs();
+    map_keeps_rules();
+    map_lists_locals();
+    map_by_same_addresses();
+    map_shows_visits();
     visits_are_known();
     compiled_does_as();
 }

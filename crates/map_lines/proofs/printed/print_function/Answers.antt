@@ -9,7 +9,7 @@ use Rattle.flow_graph.specs.Graphs.{Flow}
 use Rattle.lower_lines.specs.Shown.{local_widths}
 use Rattle.ia32_placements.specs.Placed.{arrays_in}
 use Rattle.map_text.specs.Words.{array_lines, line_text, numbered, variable_lines}
-use Rattle.map_lines.specs.Belongs.{arrays_at, local_variables, temporary}
+use Rattle.map_lines.specs.Parts.{arrays_at, local_variables, temporary}
 use Rattle.map_lines.specs.Printing.{graph_of, home_of}
 use Rattle.map_lines.proofs.FunctionTexts.{function-put}
 use Rattle.map_lines.proofs.printed.print_function.Goals as goal

@@ -8,7 +8,7 @@ use Rattle.c_tree.specs.declared.program.StaticObject.{StaticObject}
 use Rattle.c_tree.specs.Erased.{function_of, object_of, program_of}
 use Rattle.map_text.specs.Words.{TitleLine, function_lines, line_text, numbered, object_lines}
 use Rattle.map_lines.specs.declared.home.Home.{Home}
-use Rattle.map_lines.specs.Belongs.{objects_at}
+use Rattle.map_lines.specs.Parts.{objects_at}
 use Rattle.map_lines.specs.MapOf.{function_over, map_of}
 use Rattle.map_lines.specs.Printing.{address_in, graph_of, home_of}
 use Rattle.map_lines.proofs.FunctionTexts.{can-at, functions-past, functions-put, made-at, map-put, small-objects}

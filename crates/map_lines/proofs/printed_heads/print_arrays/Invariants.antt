@@ -4,7 +4,7 @@ use Rattle.c_tree.specs.Erased.{array_of}
 use Rattle.allocator.specs.PointMaps.{bytes_of_arrays}
 use Rattle.ia32_placements.specs.Placed.{arrays_in}
 use Rattle.map_text.specs.Words.{array_lines, line_text, numbered}
-use Rattle.map_lines.specs.Belongs.{arrays_at}
+use Rattle.map_lines.specs.Parts.{arrays_at}
 use Rattle.map_lines.specs.Printing.{graph_of}
 use Rattle.map_lines.proofs.HeadTexts.{pairs_of}
 use Rattle.map_lines.proofs.printed_heads.print_arrays.Given as goal

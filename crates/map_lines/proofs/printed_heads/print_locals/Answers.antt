@@ -4,7 +4,7 @@ use Rattle.c_tree.specs.declared.program.Local.{Local}
 use Rattle.c_tree.specs.Erased.{local_of}
 use Rattle.lower_lines.specs.Shown.{type_widths}
 use Rattle.map_text.specs.Words.{line_text, numbered, variable_lines}
-use Rattle.map_lines.specs.Belongs.{local_variables}
+use Rattle.map_lines.specs.Parts.{local_variables}
 use Rattle.map_lines.proofs.HeadTexts.{locals-put, widths-next}
 use Rattle.map_lines.proofs.printed_heads.print_locals.Goals as goal
 

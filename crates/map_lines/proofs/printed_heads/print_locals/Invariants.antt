@@ -3,7 +3,7 @@ use Rattle.std.specs.List.{flat_map}
 use Rattle.c_tree.specs.Erased.{local_of}
 use Rattle.lower_lines.specs.Shown.{local_widths}
 use Rattle.map_text.specs.Words.{line_text, numbered, variable_lines}
-use Rattle.map_lines.specs.Belongs.{local_variables}
+use Rattle.map_lines.specs.Parts.{local_variables}
 use Rattle.map_lines.proofs.printed_heads.print_locals.Given as goal
 
 -- the text so far and that of the other locals are that of all

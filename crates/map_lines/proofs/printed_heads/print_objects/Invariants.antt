@@ -2,7 +2,7 @@ use Rattle.std.proofs.Common.{◌≡◌, ◌++◌, drop, map}
 use Rattle.std.specs.List.{flat_map}
 use Rattle.c_tree.specs.Erased.{object_of}
 use Rattle.map_text.specs.Words.{line_text, numbered, object_lines}
-use Rattle.map_lines.specs.Belongs.{objects_at}
+use Rattle.map_lines.specs.Parts.{objects_at}
 use Rattle.map_lines.proofs.printed_heads.print_objects.Given as goal
 
 -- the text so far and that of the other objects are that of all

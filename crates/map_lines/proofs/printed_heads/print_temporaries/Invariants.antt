@@ -1,7 +1,7 @@
 use Rattle.std.proofs.Common.{◌≡◌, ◌++◌, drop, map}
 use Rattle.std.specs.List.{flat_map}
 use Rattle.map_text.specs.Words.{line_text, numbered, variable_lines}
-use Rattle.map_lines.specs.Belongs.{temporary}
+use Rattle.map_lines.specs.Parts.{temporary}
 use Rattle.map_lines.proofs.printed_heads.print_temporaries.Given as goal
 
 -- the text so far and that of the other temporaries are that of all

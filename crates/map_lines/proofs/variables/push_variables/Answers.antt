@@ -1,9 +1,0 @@
-use Rattle.std.proofs.Common.{map}
-use Rattle.c_tree.specs.Erased.{local_of}
-use Rattle.map_lines.proofs.Lines.{variables-put}
-use Rattle.map_lines.proofs.variables.push_variables.Goals as goal
-
-pub returns : goal.returns
-returns c =
-    variables-put _ _ _ (map local_of c.args.locals.now) c.args.graph.now.widths _ c.in_ok-first.ensures.many
-    c.in_ok-first.ensures.lines c.in_ok-push_temporaries.ensures
