@@ -15,7 +15,8 @@ use Rattle.ia32_rows.specs.Paths.{Path}
 use Rattle.ia32_rows.specs.Placements.{Code, objects_of}
 use Rattle.ia32_rows.specs.Shows.{Shows}
 use Rattle.pcc_program.specs.Begins.{TextBegins}
-use Rattle.pcc_program.specs.EveryPoint.{IsShownAfter, RightCodeIsTrue}
+use Rattle.pcc_program.specs.CompiledLaws.{RightCodeIsTrue}
+use Rattle.pcc_program.specs.EveryPoint.{IsShownAfter}
 use Rattle.pcc_program.specs.Products.{image_of}
 use Rattle.pcc_program.proofs.Shown.{none-some, path-then, some-same}
 
