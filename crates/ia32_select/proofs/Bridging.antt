@@ -1,7 +1,6 @@
 -- Moves from a point of a legal map to the next, made at once, bring each variable to its new place.
-use Rattle.std.proofs.Common.{◌≡◌, ◌≢◌, ◌⊎◌, ◌≤◌, ◌<◌, ◌+◌, ◌-◌, ◌*◌, ◌^◌, ℕ, List, [], ◌∷◌, Option, Some, None}
-use Rattle.std.proofs.Common.{inl, inr, refl, sym, ap, subst, ◌∙◌, arith, length, map}
-use Rattle.std.specs.Prelude.{⊤, slice_get}
+use Rattle.std.proofs.Common.{◌≡◌, ◌≢◌, ◌≤◌, ℕ, List, [], ◌∷◌, Option, Some}
+use Rattle.std.proofs.Common.{inl, inr, sym, ap, subst, ◌∙◌, arith, length}
 use Rattle.std.specs.List.{AllByRecursion, AllZip}
 use Rattle.std.proofs.lemmas.Bool.Decides.{eqb_tells}
 use Rattle.std.proofs.lemmas.Option.{same_Some}
@@ -9,7 +8,6 @@ use Rattle.pcc_base.specs.declared.run.Width.{Width}
 use Rattle.pcc_base.specs.declared.run.Width.TheVariants.{One, Two}
 use Rattle.ia32_insn.specs.declared.register_names.Reg32.TheVariants.{Ebp}
 use Rattle.ia32_insn.specs.declared.insn.Insn.{Insn}
-use Rattle.ia32_insn.specs.declared.item.Item.TheVariants as item
 use Rattle.ia32_insn.specs.Places.{Place, InWord, InByte, InSlot}
 use Rattle.ia32_insn.specs.Spelling.{HasSpelling}
 use Rattle.ia32_insn.specs.State.{State}
@@ -22,9 +20,9 @@ use Rattle.puzzle_board.specs.Places.{PlaceMap}
 use Rattle.allocator.specs.PointMaps.{IsLegalMap}
 use Rattle.ia32_rows.specs.Copying.{AreHeld, Copies, FitsWidth}
 use Rattle.ia32_rows.specs.Contains.{ApartFromPlace, Contains, IsPlaceIn, OutsidePlace}
-use Rattle.ia32_rows.specs.Effects.{IsStraight, Leads}
+use Rattle.ia32_rows.specs.Effects.{IsStraight}
 use Rattle.ia32_rows.specs.Laws.{ArePlacesApart}
-use Rattle.ia32_rows.specs.Sites.{Framed, IsInFrame, Site}
+use Rattle.ia32_rows.specs.Sites.{IsInFrame}
 use Rattle.ia32_rows.proofs.Kept.{keeps-stricter}
 use Rattle.ia32_laws.specs.Supports.{AreAllApart, HoldsWidth, IsPlaceFor, SupportsPoint}
 use Rattle.ia32_placements.specs.Laws.{IsSlotOf}
@@ -40,7 +38,7 @@ use Rattle.parallel_copies.specs.Copies.{CopyAtOnce, Fits, Holds, IsInside, IsMo
 use Rattle.parallel_copies.specs.Copies as copies
 use Rattle.parallel_copies.specs.Steps.{IsWaiting, NotSlots}
 use Rattle.parallel_copies.proofs.Keeping.{contains-after}
-use Rattle.ia32_select.specs.EdgeMoves.{AreAllMoves, AreBetween, AreMovesOf, IsMinded, IsMoveOf, Stays}
+use Rattle.ia32_select.specs.EdgeMoves.{AreAllMoves, AreBetween, AreMovesOf, IsMoveOf}
 
 -- ---- lists side by side
 

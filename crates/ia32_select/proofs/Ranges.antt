@@ -1,5 +1,5 @@
 -- Stretches of all instructions of a table.
-use Rattle.std.proofs.Common.{◌≡◌, ◌≤◌, ◌<◌, ◌+◌, ◌-◌, ℕ, zero, suc, List, [], ◌∷◌, ◌++◌, Option, Some, None, length, map}
+use Rattle.std.proofs.Common.{◌≡◌, ◌≤◌, ◌-◌, ℕ, zero, suc, List, [], ◌∷◌, ◌++◌, Option, Some, None, length, map}
 use Rattle.std.proofs.Common.{refl, sym, ap, subst, ◌∙◌, arith, length-append, replicate, take, drop, append-nil}
 use Rattle.std.specs.Prelude.{option_map, slice_get, slice_range, slice_set}
 use Rattle.std.specs.List.{AllByRecursion}

@@ -8,7 +8,6 @@ use Rattle.std.proofs.lemmas.List.{drop_more, length-set}
 use Rattle.std.proofs.lemmas.Option.{none-some, same_Some}
 use Rattle.ia32_insn.specs.declared.insn.Insn.{Insn}
 use Rattle.flow_graph.specs.Graphs.{Flow, IsIn, Stands, points_of}
-use Rattle.flow_graph.specs.Liveness.{IsSuccessor}
 use Rattle.flow_liveness.proofs.Placed.{block-within}
 use Rattle.puzzle_board.specs.Places.{PlaceMap}
 use Rattle.ia32_rows.proofs.Moves.{alike}
@@ -16,7 +15,7 @@ use Rattle.ia32_laws.specs.Supports.{AreMoves}
 use Rattle.ia32_placements.specs.Laws.{AllMove}
 use Rattle.ia32_placements.specs.Placed.{placement_in}
 use Rattle.ia32_select.specs.EdgeMoves.{AreBetween, AreNext}
-use Rattle.ia32_select.specs.MoveTables.{Fills, IsDone, Way, Ways, between_in, is_to, on_way}
+use Rattle.ia32_select.specs.MoveTables.{Fills, IsDone, Ways, between_in, is_to, on_way}
 
 -- ---- one point
 

@@ -1,5 +1,4 @@
 -- Where control goes from points.
-use Rattle.std.specs.Prelude.{◌⊎◌, ℕ}
 use Rattle.flow_graph.specs.declared.op.Op.{Op}
 use Rattle.flow_graph.specs.Shapes.{Leads, Onward, IntoCall, ToBlock, ToEither, OutOfCall, OutOfProgram, shape}
 use Rattle.ia32_select.specs.declared.exits.Exit.{Exit}

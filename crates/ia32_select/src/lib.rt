@@ -1,6 +1,12 @@
-//! The items of a whole function, over slots, and its frame.
+//! The items of a whole function, over any legal map of its graph, and over slots, with its frame.
 //!
-//! In: the graph of a function. Out: the bytes of its frame, the offset of each variable and frame array from EBP
+//! In: the graph of a function and a legal map of it. Out: the items of its code (`select`), with the instructions
+//! between points that bring each variable to where it is wanted next. The promise: the items are those that the
+//! definitions name, and the graph has code over them (`specs/Selections.antt`). `places` are places of a map as the
+//! code has them, `exits` the points that follow a point, `edges` the instructions from one to the next, `move_table`
+//! and `table_of_moves` those of the whole graph, and `placed_..` the frame, the site and the items over a map.
+//!
+//! Over slots, in: the graph of a function. Out: the bytes of its frame, the offset of each variable and frame array from EBP
 //! (`Frame`), and the items of its code (`select_function`). The promise: the items are those that the definitions name
 //! (`specs/Rows.antt` of `ia32_rows`), and saved registers, slots and arrays have no byte in common
 //! (`specs/Laws.antt`), so that the graph can have code over them. The only refusal is want of memory.

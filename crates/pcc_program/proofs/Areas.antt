@@ -1,12 +1,12 @@
 -- The areas of an image's segments, one by one.
-use Rattle.std.specs.Prelude.{◌≡◌, ℕ, ◌+◌, ◌-◌, true, false, List, [], ◌∷◌, ◌++◌, length, map, replicate, None, refl}
+use Rattle.std.specs.Prelude.{◌≡◌, ℕ, ◌+◌, ◌-◌, true, false, List, [], ◌∷◌, ◌++◌, length, replicate, None}
 use Rattle.std.specs.Int.{next_multiple_of}
 use Rattle.std.proofs.Common.{arith, sym, ap, ◌∙◌}
 use Rattle.std.proofs.lemmas.List.{append-nil}
 use Rattle.ia32_insn.specs.Registers.{zero_registers}
 use Rattle.ia32_insn.specs.State.{Area}
 use Rattle.pcc_base.specs.Bytes.{zeros}
-use Rattle.ia32_insn.specs.Items.{Object, round_up, text_start, data_bytes, data_start, data_memory, text_area}
+use Rattle.ia32_insn.specs.Items.{round_up, text_start, data_bytes, data_start, data_memory, text_area}
 use Rattle.ia32_insn.specs.Items.{text_state}
 use Rattle.elf_image.specs.Segments.{image_segments}
 use Rattle.elf_image.proofs.Loading.{loads-image}

@@ -1,5 +1,5 @@
 -- What was linked of a program does what the program does.
-use Rattle.std.proofs.Common.{◌≡◌, ◌<◌, ℕ, List, [], ◌∷◌, length, map, Some, option_map, refl, sym, ap, ◌∙◌, subst}
+use Rattle.std.proofs.Common.{◌≡◌, ℕ, List, [], ◌∷◌, length, map, Some, refl, sym, ap, ◌∙◌, subst}
 use Rattle.std.proofs.Common.{arith}
 use Rattle.std.specs.Prelude.{slice_get, slice_index}
 use Rattle.std.proofs.lemmas.Option.{get_or_from_slice_get, none-some, same_Some, slice_get_within}
@@ -10,7 +10,6 @@ use Rattle.c_tree.specs.Program.{Program}
 use Rattle.elf_image.specs.Layout.{Fits, image_bytes}
 use Rattle.elf_image.specs.Segments.{parts_of}
 use Rattle.elf_link.specs.declared.linked.Linked.{Linked}
-use Rattle.elf_link.specs.Parts.{order_of}
 use Rattle.elf_link.proofs.DataSize.{length-data}
 use Rattle.flow_graph.specs.Graphs.{Flow, IsPlaced}
 use Rattle.flow_graph.specs.States.{GraphProgram}
@@ -21,7 +20,7 @@ use Rattle.ia32_insn.specs.declared.item.Item.TheVariants as item
 use Rattle.ia32_insn.specs.Items.{data_bytes}
 use Rattle.ia32_laws.specs.Right.{ProgramsAreRight}
 use Rattle.ia32_laws.specs.StandingLaws.{IsSelected}
-use Rattle.ia32_rows.specs.Placements.{Code, Placement, objects_of, placement_of, point_address}
+use Rattle.ia32_rows.specs.Placements.{Code, objects_of, placement_of, point_address}
 use Rattle.lower_laws.specs.VisitsLaws.{VisitsAreKnown}
 use Rattle.map_lines.specs.declared.home.Home as in_code
 use Rattle.map_lines.specs.MapLaws.{MapBelongs, MapBySameAddresses, MapKeepsRules}

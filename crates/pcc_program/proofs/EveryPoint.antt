@@ -1,5 +1,5 @@
 -- Along a run of the graphs, how many steps the machine has made where it shows each of their states.
-use Rattle.std.proofs.Common.{◌≡◌, ◌<◌, ◌≤◌, ◌+◌, ℕ, zero, suc, Bool, true, false, List, [], ◌∷◌, ◌++◌, length, Option, Some, None}
+use Rattle.std.proofs.Common.{◌≡◌, ◌<◌, ◌≤◌, ◌+◌, ℕ, zero, suc, Bool, true, false, List, ◌∷◌, ◌++◌, length, Some}
 use Rattle.std.proofs.Common.{arith, refl, sym, subst}
 use Rattle.std.proofs.lemmas.List.{length-append}
 use Rattle.flow_graph.specs.Meaning.{Moved, Moves, Halts, Stuck, step}
@@ -15,7 +15,8 @@ use Rattle.ia32_rows.specs.Paths.{Path}
 use Rattle.ia32_rows.specs.Placements.{Code, objects_of}
 use Rattle.ia32_rows.specs.Shows.{Shows}
 use Rattle.pcc_program.specs.Begins.{TextBegins}
-use Rattle.pcc_program.specs.EveryPoint.{AreShown, IsShownAfter, RightCodeIsTrue}
+use Rattle.pcc_program.specs.CompiledLaws.{RightCodeIsTrue}
+use Rattle.pcc_program.specs.EveryPoint.{IsShownAfter}
 use Rattle.pcc_program.specs.Products.{image_of}
 use Rattle.pcc_program.proofs.Shown.{none-some, path-then, some-same}
 

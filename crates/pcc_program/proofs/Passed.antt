@@ -1,6 +1,6 @@
 -- What each pass relies on, from what the passes before it promise.
-use Rattle.std.proofs.Common.{◌≡◌, ◌<◌, ◌≤◌, ◌+◌, ◌*◌, ◌^◌, ℕ, List, length, map, Some, ap, sym, subst, arith, ◌∙◌}
-use Rattle.std.specs.Prelude.{slice_get, sum_by, vec_len}
+use Rattle.std.proofs.Common.{◌≡◌, ◌<◌, ◌≤◌, ◌+◌, ◌*◌, ◌^◌, ℕ, List, length, map, ap, sym, subst, arith, ◌∙◌}
+use Rattle.std.specs.Prelude.{sum_by, vec_len}
 use Rattle.std.specs.List.{All}
 use Rattle.std.proofs.lemmas.List.{length-map}
 use Rattle.pcc_base.specs.Bytes.{AreBytes}

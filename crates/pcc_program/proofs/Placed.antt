@@ -24,7 +24,7 @@ use Rattle.ia32_insn.specs.Items.{IsText, Places, elements_size}
 use Rattle.ia32_asm.specs.declared.section.Section.{Section}
 use Rattle.ia32_asm.specs.Sections.{Stands}
 use Rattle.ia32_placements.specs.Placed.{placement_in}
-use Rattle.ia32_rows.specs.Placements.{Code, Placement, address_in, no_placement, placement_of, point_address}
+use Rattle.ia32_rows.specs.Placements.{Code, address_in, no_placement, placement_of, point_address}
 use Rattle.map_lines.specs.declared.home.Home.{Home}
 use Rattle.map_lines.specs.Printing.{graph_of}
 use Rattle.pcc_program.specs.Code.{IsCodeOverMaps, IsOverMap}

@@ -1,5 +1,5 @@
 -- What the text of a map asks of the passes before it.
-use Rattle.std.proofs.Common.{◌≡◌, ◌<◌, ◌≤◌, ◌+◌, ◌*◌, ℕ, List, [], ◌∷◌, length, map, Some, ap, ◌∙◌, arith}
+use Rattle.std.proofs.Common.{◌≡◌, ◌≤◌, ◌+◌, ◌*◌, ℕ, List, [], ◌∷◌, length, map, Some, ap, ◌∙◌, arith}
 use Rattle.std.specs.Prelude.{slice_get}
 use Rattle.std.specs.List.{All, AllByRecursion}
 use Rattle.std.proofs.lemmas.List.Elements.{All-head, All-tail}
@@ -8,7 +8,6 @@ use Rattle.std.proofs.lemmas.Option.{slice_get_within}
 use Rattle.c_tree.specs.Objects.{data_object}
 use Rattle.c_tree.specs.Program.{Function, Program, StaticObject}
 use Rattle.elf_link.specs.declared.linked.Linked.{Linked}
-use Rattle.flow_graph.specs.Graphs.{IsPlaced}
 use Rattle.flow_graph.specs.Sizes.{most_words}
 use Rattle.flow_graph.specs.States.{GraphProgram}
 use Rattle.flow_graph.proofs.Lists.{All-at}

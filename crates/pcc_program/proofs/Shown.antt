@@ -1,8 +1,7 @@
 -- A run of the machine along a run of the graphs, by code that follows them.
 use Rattle.std.proofs.Common.{◌≡◌, ℕ, zero, suc, Bool, true, false, List, [], ◌∷◌, ◌++◌, Option, Some, None, refl, sym, subst}
-use Rattle.pcc_base.specs.Bytes.{AreBytes}
 use Rattle.flow_graph.specs.Meaning.{Moved, Moves, Halts, Stuck, step}
-use Rattle.flow_graph.specs.Running.{GraphAt, from_state, state_after}
+use Rattle.flow_graph.specs.Running.{from_state, state_after}
 use Rattle.flow_graph.specs.States as graph
 use Rattle.flow_graph.specs.States.{op_at}
 use Rattle.flow_graph.specs.WellFormed.{FirstIsState, IsGraphProgram, IsState, StepKeepsState}

@@ -1,10 +1,9 @@
 -- Graphs that are small for a typed program are so for the tokens of its files.
-use Rattle.std.proofs.Common.{arith, ◌≡◌, ap, refl, subst, ◌≤◌, ℕ, List, [], ◌∷◌, length, length-append}
+use Rattle.std.proofs.Common.{arith, ◌≡◌, ap, refl, subst, List, [], ◌∷◌, length, length-append}
 use Rattle.std.specs.Prelude.{flat_map}
 use Rattle.c_lex.specs.declared.token.Token.{Token}
 use Rattle.c_syntax.specs.Grammar.{unit_tokens}
 use Rattle.c_syntax.specs.Statements.{ExternalTree}
-use Rattle.c_tree.specs.Sizes.{size_of}
 use Rattle.c_front.specs.Accepted.{HaveTrees, total}
 use Rattle.c_front.proofs.OneReading.{tokens_once}
 use Rattle.c_front.proofs.Units.{units_are_sources}

@@ -1,5 +1,5 @@
 -- The ten tokens of a small program.
-use Rattle.std.proofs.Common.{arith, ◌≡◌, ap, refl, ◌<◌, ◌≤◌, ℕ, List, [], ◌∷◌}
+use Rattle.std.proofs.Common.{arith, ap, refl, ◌<◌, ◌≤◌, ℕ, List, [], ◌∷◌}
 use Rattle.std.proofs.lemmas.Int.{ints}
 use Rattle.std.proofs.lemmas.List.Elements.{All-from_recursion}
 use Rattle.std.specs.List.{AllByRecursion}

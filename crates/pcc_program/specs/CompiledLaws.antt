@@ -6,6 +6,7 @@ use Rattle.c_tree.specs.Program.{Program}
 use Rattle.c_tree.specs.Evaluation.{source_outcome}
 use Rattle.flow_graph.specs.Running.{GraphAt}
 use Rattle.flow_graph.specs.States as graph
+use Rattle.flow_graph.specs.WellFormed.{IsGraphProgram}
 use Rattle.elf_image.specs.Layout.{Fits}
 use Rattle.pcc_program.specs.Begins.{parts_of_text}
 use Rattle.lower_lines.specs.Shown.{ListsLocals, variables_shown}
@@ -20,6 +21,7 @@ use Rattle.map_text.specs.Maps.{Map}
 use Rattle.map_text.specs.Marks.{listed, visits_of}
 use Rattle.map_text.specs.Rules.{IsMap}
 use Rattle.map_lines.specs.MapOf.{IsMapOf}
+use Rattle.pcc_program.specs.EveryPoint.{IsTrueEverywhere}
 use Rattle.pcc_program.specs.Products.{BelongsTo, IsImageOf, image_of}
 
 -- What the passes make of a program: the graphs that it is lowered to; their code, which does what they do, in a
@@ -54,3 +56,9 @@ abbrev pub GraphsAreShown : Type 0
 GraphsAreShown =
     (program : Program) (image : List ℕ) (map : Map) (belongs : BelongsTo program image map) (input : List ℕ) (k : ℕ)
     (g : graph.State) → AreBytes input → GraphAt belongs.code.program input k g → IsReached belongs.code input g
+
+-- Every state that the graphs come to is shown, in order, by a state that the image of right code comes to.
+abbrev pub RightCodeIsTrue : Type 0
+RightCodeIsTrue =
+    (code : Code) → IsGraphProgram code.program → IsRightCode code
+    → Fits (parts_of_text code.text (objects_of code.program)) → IsTrueEverywhere (image_of code) code

@@ -2,19 +2,15 @@
 -- state that shows each state of theirs, in order.
 use Rattle.std.specs.Prelude.{◌≡◌, ◌<◌, ◌≤◌, ℕ, suc, true, List, length}
 use Rattle.pcc_base.specs.Bytes.{AreBytes}
-use Rattle.elf_image.specs.Layout.{Fits}
 use Rattle.flow_graph.specs.Running.{GraphAt}
 use Rattle.flow_graph.specs.States as graph
 use Rattle.flow_graph.specs.States.{op_at}
-use Rattle.flow_graph.specs.WellFormed.{IsGraphProgram}
 use Rattle.ia32_insn.specs.State as machine
 use Rattle.ia32_machine.specs.First.{First}
-use Rattle.ia32_rows.specs.Follows.{IsRightCode, is_nop}
+use Rattle.ia32_rows.specs.Follows.{is_nop}
 use Rattle.ia32_rows.specs.Paths.{Path}
-use Rattle.ia32_rows.specs.Placements.{Code, objects_of}
+use Rattle.ia32_rows.specs.Placements.{Code}
 use Rattle.ia32_rows.specs.Shows.{Shows}
-use Rattle.pcc_program.specs.Begins.{parts_of_text}
-use Rattle.pcc_program.specs.Products.{image_of}
 
 -- after m steps from the first state of these bytes the machine shows this state of the graphs: its variables, arrays and
 -- waiting calls are in the places and at the addresses that the code has
@@ -38,9 +34,3 @@ abbrev pub IsTrueEverywhere : List ℕ → Code → Type 0
 IsTrueEverywhere image code =
     (input : List ℕ) (k : ℕ) (g : graph.State) → AreBytes input → GraphAt code.program input k g
     → AreShown image code input k
-
--- the image of right code of a program of graphs is so
-abbrev pub RightCodeIsTrue : Type 0
-RightCodeIsTrue =
-    (code : Code) → IsGraphProgram code.program → IsRightCode code
-    → Fits (parts_of_text code.text (objects_of code.program)) → IsTrueEverywhere (image_of code) code

@@ -8,6 +8,7 @@ use Rattle.c_tree.specs.Evaluation.{source_outcome}
 use Rattle.lower_laws.specs.Lowered.{AreLowered}
 use Rattle.elf_image.specs.Layout.{image_bytes}
 use Rattle.pcc_program.specs.Begins.{parts_of_text}
+use Rattle.pcc_program.specs.EveryPoint.{IsTrueEverywhere}
 use Rattle.ia32_insn.specs.State.{State}
 use Rattle.ia32_insn.specs.Runs.{Runs}
 use Rattle.ia32_machine.specs.First.{First}
@@ -46,10 +47,12 @@ pub record BelongsTo (program : Program) (image : List ℕ) (map : Map) : Type 0
   pub image_is : image ≡ image_of code
   pub is_map : IsMapOf program code map
 
--- an image does what a program does, by a map that belongs to it and to the program
+-- An image does what a program does, by a map that belongs to it and to the program. The map is true at every point: the
+-- machine comes to each state of the program's graphs, in order, with variables, arrays and waiting calls where the map has them.
 pub record IsImageOf (program : Program) (map : Map) (image : List ℕ) : Type 0 where
   pub rules : IsMap map
   pub belongs : BelongsTo program image map
+  pub everywhere : IsTrueEverywhere image belongs.code
   pub correct : DoesAs image map program
 
 -- the texts of a map and an image for a program

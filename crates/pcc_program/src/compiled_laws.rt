@@ -1,16 +1,17 @@
 //! The laws of compiled programs: each function's contract is one, and the function only cites those that it rests on.
 
-ghost use Rattle.pcc_program.specs.CompiledLaws.{CompiledDoesAs, GraphsAreShown};
-ghost use Rattle.pcc_program.specs.EveryPoint.{RightCodeIsTrue};
+ghost use Rattle.pcc_program.specs.CompiledLaws.{CompiledDoesAs, GraphsAreShown, RightCodeIsTrue};
 
 use crate::start::text_begins;
 use flow_graph::{first_is_state, step_keeps_state};
 
 /// Where the code of a program's graphs is right and the map is that of the code, the image of the code's text does
-/// what the program does, as the map shows it.
+/// what the program does, as the map shows it, and the map is true at every point.
 pub fn compiled_does_as()
     ensures { CompiledDoesAs }
 {
+    first_is_state();
+    step_keeps_state();
     text_begins();
 }
 

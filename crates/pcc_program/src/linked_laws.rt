@@ -7,8 +7,7 @@ use crate::compiled_laws::compiled_does_as;
 use ia32_laws::programs_are_right;
 use lower_laws::visits_are_known;
 use map_lines::{
-    map_belongs, map_by_same_addresses, map_keeps_rules, map_lists_locals,
-    map_shows_visits,
+    map_belongs, map_by_same_addresses, map_keeps_rules, map_lists_locals, map_shows_visits,
 };
 
 /// What was linked of a program has a map whose text can be made, and its image does what the program does, as this

@@ -1,7 +1,5 @@
 -- The move of a variable, by where it stands on both sides.
-use Rattle.std.proofs.Common.{◌≡◌, ℕ, List, Some, sym, ap, ◌∙◌}
-use Rattle.flow_graph.specs.Graphs.{Flow}
-use Rattle.puzzle_board.specs.Places.{PlaceMap}
+use Rattle.std.proofs.Common.{sym, ap, ◌∙◌}
 use Rattle.ia32_placements.specs.Standings.{standing_after, standing_before, standing_if_any}
 use Rattle.ia32_emit.specs.Locations.{place_of}
 use Rattle.ia32_select.proofs.Gathering.{edge-points, found-nowhere, found-there, stays-idle, stays-unwanted, within}

@@ -2,7 +2,6 @@
 use Rattle.std.proofs.Common.{◌-◌, ◌++◌, ℤ, [], ◌∷◌, ap, ◌∙◌, to_z, arith}
 use Rattle.std.specs.Int.{w32}
 use Rattle.std.proofs.lemmas.Int.{to_z_pos}
-use Rattle.ia32_select.specs.Frames.{offset_of}
 use Rattle.ia32_select.proofs.Loops.{array-computed}
 use Rattle.ia32_select.proofs.Offsets.{header-room, offsets-more}
 use Rattle.ia32_select.proofs.placed_frame.arrays_of.Goals as goal

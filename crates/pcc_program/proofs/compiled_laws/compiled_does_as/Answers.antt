@@ -10,6 +10,7 @@ use Rattle.map_text.specs.Maps.{Map}
 use Rattle.map_text.specs.Marks.{listed, visits_of}
 use Rattle.pcc_program.specs.CompiledLaws.{IsCompiled}
 use Rattle.pcc_program.specs.Products.{DoesAs, image_of}
+use Rattle.pcc_program.proofs.EveryPoint.{every-point}
 use Rattle.pcc_program.proofs.compiled_laws.compiled_does_as.Goals as goal
 
 -- Lowering keeps the program's outcome, the code runs as the graphs do, the map lists locals and shows the visits of
@@ -35,5 +36,7 @@ returns c = λ program code map is.
         image_is = refl;
         is_map = is.is_map;
       };
+      everywhere = every-point c.first_is_state.ensures c.step_keeps_state.ensures c.text_begins.ensures code
+          is.lowered.well_formed is.right is.room;
       correct = image-does program code map c.text_begins.ensures is;
     }
