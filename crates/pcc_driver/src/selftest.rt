@@ -69,7 +69,6 @@ fn generated_program(alloc: Global, number: u32) -> Result<Program, Report>
 
 /// The line of the evaluation of a program over no input, for so many turns at most, or why there is none. What it reads
 /// and writes stands in memory, which refuses nothing but where it is wanting.
-#[tactic(auto, using(crate::proofs::Selftesting::evaluated_line, crate::proofs::Selftesting::evaluated_trap, crate::proofs::Selftesting::evaluated_spent), unfolding(c_eval::specs::Runs::EvalTold))]
 fn line_of_evaluation(alloc: Global, program: &Program, turns: u64) -> Result<Vec<u8>, Report>
     ensures { MatchResult result (λ line. IsLineOf turns (program_of program.now) line.items)
         (GivesNoLine turns (program_of program.now)) }
