@@ -22,9 +22,9 @@ returns-in-Answered-clause-told g c =
       first,
       is,
       behind_line c.args.steps c.args.name.now texts first (store_of g.F.FileStore c.args.files.now)
-      (store_of g.F.FileStore c.test_image.new.files) (output_of g.O.Sink c.args.out.now)
-      (output_of g.O.Sink c.put_answer.new.out) (output_of g.O.Sink c.test_image.new.out) c.test_image.result
-      (rw c.in-Answered.is at put) c.put_answer.ensures.telling (c.test_image.ensures.told texts c.in-Ok.ensures),
+          (store_of g.F.FileStore c.test_image.new.files) (output_of g.O.Sink c.args.out.now)
+          (output_of g.O.Sink c.put_answer.new.out) (output_of g.O.Sink c.test_image.new.out) c.test_image.result
+          (rw c.in-Answered.is at put) c.put_answer.ensures.telling (c.test_image.ensures.told texts c.in-Ok.ensures),
     )
 
 pub returns : goal.returns
@@ -40,8 +40,8 @@ returns g c =
       streams_cause = c.put_answer.ensures.streams;
       told = inl (
         unput_line c.args.turns texts first (output_of g.O.Sink c.args.out.now)
-        (output_of g.O.Sink c.put_answer.new.out) c.put_answer.result c.in_default.not-Answered
-        (program_of c.in-Ok.program, c.in-Ok.ensures, c.in-Ok-line_of_evaluation.ensures) put,
+            (output_of g.O.Sink c.put_answer.new.out) c.put_answer.result c.in_default.not-Answered
+            (program_of c.in-Ok.program, c.in-Ok.ensures, c.in-Ok-line_of_evaluation.ensures) put,
         λ t other. refl,
       );
     }
