@@ -56,8 +56,8 @@ counted_end n most s before after left left' left'' IsFirst IsNext IsPut machine
 counted_end n most s before after left left' left'' IsFirst IsNext IsPut machine.NoMemory joins lt r h = tt
 
 -- all steps were made
-pub counted_spent : (most steps : ℕ) (s machine : State) (left left' : List ℕ) (IsPut : List ℕ → Type 0)
-    → Ran most s machine left left' IsPut → CountedTold most s IsPut machine.BudgetSpent steps
+pub counted_spent : (most steps : ℕ) (s before : State) (left left' : List ℕ) (IsPut : List ℕ → Type 0)
+    → Ran most s before left left' IsPut → CountedTold most s IsPut machine.BudgetSpent steps
 counted_spent most steps s before left left' IsPut r =
     (stands [] r.state Goes, reaches_goes most s r.state r.reaches, refl)
 

@@ -133,6 +133,7 @@ goes-before n fewer s o other le run goes run' = by other.end refl
         ap (λ (x : Outcome). x.end) (run_once no_visits n s other o
         (subst (λ (k : ℕ). Runs no_visits k s other) e (runs_more no_visits (n - fewer) fewer s other ends run')) run)
         ∙ goes
+
     by : (end : End) → other.end ≡ end → other.end ≡ Goes
     by Goes e = e
     by (outcome.Ended status) e = later (λ g. let no_end : outcome.Ended status ≡ Goes = sym e ∙ g in cc)

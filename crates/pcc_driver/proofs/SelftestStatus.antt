@@ -74,7 +74,7 @@ all_steps most image line run =
       s,
       first,
       subst (λ (n : ℕ). Runs no_visits n s run.ran) e (runs_more no_visits (most - run.steps) run.steps s run.ran
-      (λ g. let no_end : outcome.Ended run.status ≡ outcome.Goes = sym run.ended ∙ g in cc) runs),
+          (λ g. let no_end : outcome.Ended run.status ≡ outcome.Goes = sym run.ended ∙ g in cc) runs),
     )
 
 -- the status of what comes up to the first line

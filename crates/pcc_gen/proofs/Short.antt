@@ -30,8 +30,28 @@ short-if false most x y hx hy = hy
 
 short-operator : (q : ℕ) → length (get_or operators q []) ≤ 2
 short-operator q =
-    short-at 2 operators q (omega arith, (omega arith, (omega arith, (omega arith, (omega arith, (omega arith, (omega arith,
-    (omega arith, tt))))))))
+    short-at 2 operators q (
+      omega arith,
+      (
+        omega arith,
+        (
+          omega arith,
+          (
+            omega arith,
+            (
+              omega arith,
+              (
+                omega arith,
+                (
+                  omega arith,
+                  (omega arith, tt),
+                ),
+              ),
+            ),
+          ),
+        ),
+      ),
+    )
 
 short-operation : (q x : ℕ) → length (operation q x) ≤ 4
 short-operation q x =
@@ -46,14 +66,23 @@ short-statements : (n x : ℕ) → length (statements n x) ≤ 20 * n
 unfolding statements
 short-statements zero x = omega arith
 short-statements (suc n) x =
-    omega (arith, length-append (statement x) (statements n (after_statement x)), short-statement x,
-    short-statements n (after_statement x))
+    omega (
+      arith,
+      length-append (statement x) (statements n (after_statement x)),
+      short-statement x,
+      short-statements n (after_statement x),
+    )
 
 -- the first and the last lines of a function
 short-opening : (i x : ℕ) → i < 100 → length (opening i x) ≤ 1300
 short-opening i x few =
-    simp length-append (omega (arith, length-decimal-le_succ i (omega (arith, few)),
-    length-decimal-le_succ (draw 1000 x) (omega (arith, small-thousand x)), small-thousand x, few))
+    simp length-append (omega (
+      arith,
+      length-decimal-le_succ i (omega (arith, few)),
+      length-decimal-le_succ (draw 1000 x) (omega (arith, small-thousand x)),
+      small-thousand x,
+      few,
+    ))
 
 short-closing : (x : ℕ) → length (closing x) ≤ 200
 short-closing x =
@@ -65,15 +94,25 @@ short-function i x few =
     let o = opening i x in
     let s = statements 30 (next x) in
     let c = closing (after_statements 30 (next x)) in
-    omega (arith, length-append (o ++ s) c, length-append o s, short-opening i x few, short-statements 30 (next x),
-    short-closing (after_statements 30 (next x)))
+    omega (
+      arith,
+      length-append (o ++ s) c,
+      length-append o s,
+      short-opening i x few,
+      short-statements 30 (next x),
+      short-closing (after_statements 30 (next x)),
+    )
 
 short-functions : (n i x : ℕ) → i + n ≤ 100 → length (functions n i x) ≤ 2100 * n
 unfolding functions
 short-functions zero i x few = omega arith
 short-functions (suc n) i x few =
-    omega (arith, length-append (function i x) (functions n (suc i) (after_function x)),
-    short-function i x (omega (arith, few)), short-functions n (suc i) (after_function x) (omega (arith, few)))
+    omega (
+      arith,
+      length-append (function i x) (functions n (suc i) (after_function x)),
+      short-function i x (omega (arith, few)),
+      short-functions n (suc i) (after_function x) (omega (arith, few)),
+    )
 
 -- a call, and so many
 short-call : (i : ℕ) → i < 100 → length (call i) ≤ 200
@@ -83,8 +122,12 @@ short-calls : (n i : ℕ) → i + n ≤ 100 → length (calls n i) ≤ 200 * n
 unfolding calls
 short-calls zero i few = omega arith
 short-calls (suc n) i few =
-    omega (arith, length-append (call i) (calls n (suc i)), short-call i (omega (arith, few)),
-    short-calls n (suc i) (omega (arith, few)))
+    omega (
+      arith,
+      length-append (call i) (calls n (suc i)),
+      short-call i (omega (arith, few)),
+      short-calls n (suc i) (omega (arith, few)),
+    )
 
 short-main : (n : ℕ) → n ≤ 100 → length (main_function n) ≤ 200 * n + 1000
 short-main n few = simp length-append (omega (arith, short-calls n 0 (omega (arith, few))))
@@ -94,5 +137,10 @@ pub short : (number : ℕ) → length (generated number) < 100000
 short number =
     let f = functions 40 0 number in
     let m = main_function 40 in
-    omega (arith, length-append (codes "int t[64];\n" ++ f) m, length-append (codes "int t[64];\n") f,
-    short-functions 40 0 number (omega arith), short-main 40 (omega arith))
+    omega (
+      arith,
+      length-append (codes "int t[64];\n" ++ f) m,
+      length-append (codes "int t[64];\n") f,
+      short-functions 40 0 number (omega arith),
+      short-main 40 (omega arith),
+    )

@@ -2,8 +2,9 @@
 //! `selftest` puts of them.
 
 use crate::expected::expect;
-use crate::runs::{expect_answer, expect_command, expect_run, files_with, no_files, run_line};
-use crate::runs::run_refused;
+use crate::runs::{
+    expect_answer, expect_command, expect_run, files_with, no_files, run_line, run_refused,
+};
 use crate::tables::{cells, rows_of};
 use pcc_outside::MemFiles;
 use std::alloc::{AllocError, Global};

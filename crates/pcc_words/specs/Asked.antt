@@ -113,7 +113,7 @@ asked_by command rows =
     else if bytes_eq command (codes "solve") then solve_asked (first_of (codes "FILE") rows)
     else if bytes_eq command (codes "gen") then gen_asked (first_of (codes "N") rows)
     else if bytes_eq command (codes "selftest") then
-      selftest_asked (first_of (codes "NAME") rows) (first_of (codes "N") rows)
+    selftest_asked (first_of (codes "NAME") rows) (first_of (codes "N") rows)
     else if bytes_eq command (codes "least") then least_asked (first_of (codes "FILE") rows)
     else if bytes_eq command (codes "board") then board_asked (all_of (codes "SRC") rows) else Usage
 

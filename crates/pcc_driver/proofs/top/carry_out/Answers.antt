@@ -22,3 +22,6 @@ returns-in-Eval-clause-told g c =
     (work_of g.F.FileStore g.I.Source g.O.Sink c.args.files.now c.args.input.now c.args.out.now)
     (work_of g.F.FileStore g.I.Source g.O.Sink c.eval.new.files c.eval.new.input c.eval.new.out) c.eval.result
     (rw c.as_slice-in-Eval.ensures.value refl) c.eval.ensures.same c.eval.ensures.sources c.eval.ensures.told)
+
+pub returns-in-Selftest-clause-told : goal.returns-in-Selftest-clause-told
+returns-in-Selftest-clause-told g c = rw c.in-Selftest.is (refl, c.selftest.ensures.told)
