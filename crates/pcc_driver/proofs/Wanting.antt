@@ -24,6 +24,7 @@ wanting_told (commands.Solve file) work = (tt, λ f other. refl, refl, λ f o. r
 wanting_told (commands.Gen number) work = (λ f other. refl, refl, λ t. refl)
 wanting_told (commands.Selftest name number) work = (refl, inl (λ t. refl, λ f other. refl))
 wanting_told (commands.Least file) work = (λ f other. refl, refl, λ f o. refl)
+wanting_told (commands.Board sources) work = (λ f other. refl, refl, λ f o. refl)
 wanting_told (commands.ManyFiles count) work = (inr refl, λ f other. refl, (refl, refl))
 wanting_told commands.Usage work = (inr refl, λ f other. refl, (refl, refl))
 

@@ -61,7 +61,7 @@ fn push_name(out: &mut Vec<u8>, command: &Command<'_>, file: Named) -> Result<()
             Named::Image => out.extend_from_slice(name.as_bytes())?,
             Named::Board => {}
         },
-        Command::Eval { sources, .. } => match file {
+        Command::Eval { sources, .. } | Command::Board { sources } => match file {
             Named::Source(position) => push_source(out, sources.as_slice(), position)?,
             Named::Map | Named::Image | Named::Board => {}
         },
