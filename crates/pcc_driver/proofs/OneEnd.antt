@@ -22,7 +22,7 @@ use Rattle.ia32_insn.specs.Runs.{GoesOn, Runs, Steps, no_visits, stands}
 use Rattle.ia32_insn.proofs.Runs.{run_once, runs_more}
 use Rattle.ia32_machine.specs.First.{First}
 use Rattle.ia32_machine.proofs.First.{first-one}
-use Rattle.map_lines.specs.Laws.{MapListsLocals}
+use Rattle.map_lines.specs.MapLaws.{MapListsLocals}
 use Rattle.map_text.specs.Maps.{Map}
 use Rattle.map_text.specs.Marks.{listed, visits_of}
 use Rattle.pcc_program.specs.Products.{IsImageOf}
@@ -150,7 +150,7 @@ ends-as program map image end is typed lists (turns, status, ended) stays (steps
     let quiet = unseen (visits_of map) m t _ shown in
     let same : t ≡ s = first-one image [] t s again first in
     let alike = sources-alike program is.belongs.code.program (listed map) [] turns is.belongs.lowered.keeps
-    (lists program is.belongs.code map typed is.belongs.lowered.shapes is.belongs.is_map) in
+    (lists program is.belongs.code map typed is.belongs.lowered.shapes is.belongs.lowered.marks is.belongs.is_map) in
     let quiet_ends : quiet.0.end ≡ outcome.Ended status = quiet.2 ∙ alike ∙ ended in
     let one = ends-once steps m s o quiet.0 (λ g. stays (sym o_ends ∙ g))
     (λ g. let no_end : outcome.Ended status ≡ Goes = sym quiet_ends ∙ g in cc) run

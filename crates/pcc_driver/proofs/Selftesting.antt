@@ -10,7 +10,7 @@ use Rattle.c_eval.specs.Runs.{EvalTold}
 use Rattle.c_eval_state.specs.declared.end.EvalEnd.TheVariants as evaluation
 use Rattle.c_tree.specs.Program.{Program}
 use Rattle.c_tree.specs.WellTyped.{WellTyped}
-use Rattle.map_lines.specs.Laws.{MapListsLocals}
+use Rattle.map_lines.specs.MapLaws.{MapListsLocals}
 use Rattle.map_text.specs.Maps as maps
 use Rattle.pcc_program.specs.Products.{IsImageOf}
 use Rattle.pcc_words.specs.Asked.{map_name}
