@@ -7,6 +7,7 @@ pub mod Exact
 pub mod Files
 pub mod Mapping
 mod Ready
+pub mod Refused
 pub mod Running
 pub mod Solving
 pub mod CommandTold

@@ -7,9 +7,15 @@ use Rattle.pcc_driver.specs.Outside.{output_of, store_of}
 use Rattle.pcc_driver.specs.Products.{AreProducts}
 use Rattle.pcc_driver.specs.Programs.{HaveTypedProgram}
 use Rattle.pcc_driver.specs.declared.report.Report.TheVariants as reports
+use Rattle.pcc_driver.proofs.Ready.{compilable}
 use Rattle.pcc_driver.proofs.Selftesting.{image_tested, write_refused, writes_streams}
 use Rattle.pcc_driver.proofs.Written.{stands_of}
 use Rattle.pcc_driver.proofs.selftest.test_image.Goals as goal
+
+pub compile_program-requires : goal.compile_program-requires
+compile_program-requires g c =
+    compilable (program_of c.args.program.now)
+    (c.programs_are_ready.ensures c.requires.typed.0 (program_of c.args.program.now) c.requires.typed.1)
 
 pub returns-in-Compiled-clause-told : goal.returns-in-Compiled-clause-told
 returns-in-Compiled-clause-told g c = λ texts typed.
