@@ -25,21 +25,21 @@ use Rattle.c_syntax.specs.StatementTokens.{stmt_height, stmts_height, ends_open,
 use Rattle.c_syntax.specs.StatementTokens.{IsBlockItem, IsCase, IsStmt, AreItems, AreCases}
 use Rattle.c_syntax.specs.Grammar.{external_tokens, unit_tokens, external_height, HasParameters, IsBlock, IsExternal}
 use Rattle.c_syntax.specs.Grammar.{Tree}
-use Rattle.c_syntax.specs.Chains.{Done, Goes, Reads, then_read}
-use Rattle.c_syntax.proofs.Chains.{Continues, continues_start, continues_goes, continues_done}
-use Rattle.c_syntax.specs.Taking.{take_mark, take_word, take_specifiers}
-use Rattle.c_syntax.specs.Reading.{Readers, readers}
-use Rattle.c_syntax.proofs.Reading.{readers-none}
-use Rattle.c_syntax.proofs.Heads.{expression_no_mark, expression_no_word, expression_no_specifiers}
-use Rattle.c_syntax.proofs.Complete.{Complete, complete, loosest, takes_specifiers}
-use Rattle.c_syntax.specs.DeclarationReading.{maybe_before, read_declarator, declaration_behind, read_declaration}
-use Rattle.c_syntax.proofs.DeclarationComplete.{MaybeFits, maybe_read, declaration_read, declarator_read}
-use Rattle.c_syntax.proofs.DeclarationComplete.{declarator_no_specifier}
-use Rattle.c_syntax.specs.StatementReading.{StmtReader, Below, below_of, below_over, read_condition, until_step}
-use Rattle.c_syntax.specs.StatementReading.{read_until, label_step, read_labels, read_labelled, read_block_item}
-use Rattle.c_syntax.specs.StatementReading.{read_for_rest, for_behind, read_statement, external_from, read_external}
-use Rattle.c_syntax.specs.StatementReading.{unit_step, read_unit, has_parameters}
-use Rattle.c_syntax.proofs.StatementReading.{below_of-suc, below_of-none}
+use Rattle.c_grammar.specs.Chains.{Done, Goes, Reads, then_read}
+use Rattle.c_grammar.proofs.Chains.{Continues, continues_start, continues_goes, continues_done}
+use Rattle.c_grammar.specs.Taking.{take_mark, take_word, take_specifiers}
+use Rattle.c_grammar.specs.Reading.{Readers, readers}
+use Rattle.c_grammar.proofs.Reading.{readers-none}
+use Rattle.c_grammar.proofs.Heads.{expression_no_mark, expression_no_word, expression_no_specifiers}
+use Rattle.c_grammar.proofs.Complete.{Complete, complete, loosest, takes_specifiers}
+use Rattle.c_grammar.specs.DeclarationReading.{maybe_before, read_declarator, declaration_behind, read_declaration}
+use Rattle.c_grammar.proofs.DeclarationComplete.{MaybeFits, maybe_read, declaration_read, declarator_read}
+use Rattle.c_grammar.proofs.DeclarationComplete.{declarator_no_specifier}
+use Rattle.c_grammar.specs.StatementReading.{StmtReader, Below, below_of, below_over, read_condition, until_step}
+use Rattle.c_grammar.specs.StatementReading.{read_until, label_step, read_labels, read_labelled, read_block_item}
+use Rattle.c_grammar.specs.StatementReading.{read_for_rest, for_behind, read_statement, external_from, read_external}
+use Rattle.c_grammar.specs.StatementReading.{unit_step, read_unit, has_parameters}
+use Rattle.c_grammar.proofs.StatementReading.{below_of-suc, below_of-none}
 
 -- a reader finds the statements that are at most so high
 abbrev pub FindsStmt : ℕ → StmtReader → Type 0

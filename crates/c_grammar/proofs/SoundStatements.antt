@@ -23,25 +23,25 @@ use Rattle.c_syntax.specs.StatementTokens.{label_height, stmt_height, stmts_heig
 use Rattle.c_syntax.specs.StatementTokens.{IsPlain, IsBlockItem, IsCase, IsStmt, AreItems, AreCases}
 use Rattle.c_syntax.specs.Grammar.{external_tokens, unit_tokens, external_height, HasParameters, IsBlock, IsExternal}
 use Rattle.c_syntax.specs.Grammar.{Tree}
-use Rattle.c_syntax.specs.Chains.{Reads, then_read}
-use Rattle.c_syntax.specs.Taking.{take_mark, take_word, take_specifiers}
-use Rattle.c_syntax.specs.Reading.{Reader, Readers, readers}
-use Rattle.c_syntax.proofs.Reading.{readers-none}
-use Rattle.c_syntax.proofs.Heads.{expression_no_mark}
-use Rattle.c_syntax.proofs.Sound.{Holds, HoldsStep, holds_then, step_then, holds_chain, mark_taken, word_taken}
-use Rattle.c_syntax.proofs.Sound.{specifiers_taken, Sound, SoundReader, SoundReaders, sound}
-use Rattle.c_syntax.proofs.SoundDeclarations.{One, MaybeIs, SoundMaybe, sound_maybe, IsLowDeclarator, sound_declarator}
-use Rattle.c_syntax.proofs.SoundDeclarations.{IsLowDeclaration, sound_declaration_behind, sound_declaration}
-use Rattle.c_syntax.specs.DeclarationReading.{maybe_before, read_declarator, declaration_behind, read_declaration}
-use Rattle.c_syntax.specs.StatementReading.{StmtReader, Below, below_of, below_over, Condition, read_condition}
-use Rattle.c_syntax.specs.StatementReading.{until_at, until_step, read_until, default_at, label_at, label_step}
-use Rattle.c_syntax.specs.StatementReading.{read_labels, read_labelled, item_with, read_block_item, block_behind}
-use Rattle.c_syntax.specs.StatementReading.{else_from, if_behind, while_behind, do_behind, ForRest, read_for_rest}
-use Rattle.c_syntax.specs.StatementReading.{for_with, for_behind, switch_behind, or_return, or_continue, or_break}
-use Rattle.c_syntax.specs.StatementReading.{or_switch, or_for, or_do, or_while, or_if, or_block, read_statement}
-use Rattle.c_syntax.specs.StatementReading.{has_parameters, external_from, external_with, read_external, unit_step}
-use Rattle.c_syntax.specs.StatementReading.{read_unit}
-use Rattle.c_syntax.proofs.StatementReading.{below_of-suc, below_of-none}
+use Rattle.c_grammar.specs.Chains.{Reads, then_read}
+use Rattle.c_grammar.specs.Taking.{take_mark, take_word, take_specifiers}
+use Rattle.c_grammar.specs.Reading.{Reader, Readers, readers}
+use Rattle.c_grammar.proofs.Reading.{readers-none}
+use Rattle.c_grammar.proofs.Heads.{expression_no_mark}
+use Rattle.c_grammar.proofs.Sound.{Holds, HoldsStep, holds_then, step_then, holds_chain, mark_taken, word_taken}
+use Rattle.c_grammar.proofs.Sound.{specifiers_taken, Sound, SoundReader, SoundReaders, sound}
+use Rattle.c_grammar.proofs.SoundDeclarations.{One, MaybeIs, SoundMaybe, sound_maybe, IsLowDeclarator, sound_declarator}
+use Rattle.c_grammar.proofs.SoundDeclarations.{IsLowDeclaration, sound_declaration_behind, sound_declaration}
+use Rattle.c_grammar.specs.DeclarationReading.{maybe_before, read_declarator, declaration_behind, read_declaration}
+use Rattle.c_grammar.specs.StatementReading.{StmtReader, Below, below_of, below_over, Condition, read_condition}
+use Rattle.c_grammar.specs.StatementReading.{until_at, until_step, read_until, default_at, label_at, label_step}
+use Rattle.c_grammar.specs.StatementReading.{read_labels, read_labelled, item_with, read_block_item, block_behind}
+use Rattle.c_grammar.specs.StatementReading.{else_from, if_behind, while_behind, do_behind, ForRest, read_for_rest}
+use Rattle.c_grammar.specs.StatementReading.{for_with, for_behind, switch_behind, or_return, or_continue, or_break}
+use Rattle.c_grammar.specs.StatementReading.{or_switch, or_for, or_do, or_while, or_if, or_block, read_statement}
+use Rattle.c_grammar.specs.StatementReading.{has_parameters, external_from, external_with, read_external, unit_step}
+use Rattle.c_grammar.specs.StatementReading.{read_unit}
+use Rattle.c_grammar.proofs.StatementReading.{below_of-suc, below_of-none}
 
 -- a statement of a kind, so high at most; where it ends in an open `if`, no `else` comes next
 pub record SoundStmt (K : Stmt → Type 0) (h : ℕ) (ts : List Token) (s : Stmt) (us : List Token) : Type 0 where

@@ -12,9 +12,9 @@ use Rattle.c_syntax.specs.Expressions.{Star, Expr, exprs_of}
 use Rattle.c_syntax.specs.Declarations.{ArrayTree, ParameterTree, ParametersTree, PartTree, Plain, Array, Function}
 use Rattle.c_syntax.specs.Declarations.{DeclaratorTree, InitialiserTree, Single, Braces, ValueTree, ItemTree}
 use Rattle.c_syntax.specs.Declarations.{DeclarationTree}
-use Rattle.c_syntax.specs.Chains.{Step, Done, Goes, Reads, then_read, then_step, chained}
-use Rattle.c_syntax.specs.Taking.{take_mark, take_specifiers, take_pointer}
-use Rattle.c_syntax.specs.Reading.{Reader, Readers, Values}
+use Rattle.c_grammar.specs.Chains.{Step, Done, Goes, Reads, then_read, then_step, chained}
+use Rattle.c_grammar.specs.Taking.{take_mark, take_specifiers, take_pointer}
+use Rattle.c_grammar.specs.Reading.{Reader, Readers, Values}
 
 -- ---- several, with commas between them
 

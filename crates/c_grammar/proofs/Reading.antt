@@ -4,9 +4,9 @@ use Rattle.pcc_base.specs.declared.span.Span.{Span}
 use Rattle.c_lex.specs.declared.token.Token.{Token}
 use Rattle.c_lex.specs.declared.token.Punct.TheVariants as marks
 use Rattle.c_syntax.specs.declared.expression.Specifier.{Specifier}
-use Rattle.c_syntax.specs.Taking.{take_mark, take_specifiers, take_pointer}
-use Rattle.c_syntax.specs.Reading.{Readers, cast_behind, no_readers, read_assignment, read_binary, read_cast}
-use Rattle.c_syntax.specs.Reading.{read_conditional, read_expression, read_infix, read_unary, readers, readers_over}
+use Rattle.c_grammar.specs.Taking.{take_mark, take_specifiers, take_pointer}
+use Rattle.c_grammar.specs.Reading.{Readers, cast_behind, no_readers, read_assignment, read_binary, read_cast}
+use Rattle.c_grammar.specs.Reading.{read_conditional, read_expression, read_infix, read_unary, readers, readers_over}
 
 pub readers-none : readers 0 ≡ no_readers
 unfolding readers

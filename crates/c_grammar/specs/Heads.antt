@@ -1,5 +1,5 @@
 -- With which tokens an expression begins.
-use Rattle.std.specs.Prelude.{Bool, true, false}
+use Rattle.std.specs.Prelude.{Bool, true, false, not}
 use Rattle.c_lex.specs.declared.token.TokenKind.{TokenKind}
 use Rattle.c_lex.specs.declared.token.TokenKind.TheVariants as kinds
 use Rattle.c_lex.specs.declared.token.Punct.{Punct}
@@ -20,7 +20,7 @@ mark_begins _ = false
 -- whether an expression may begin with a token
 abbrev pub begins : TokenKind → Bool
 begins (kinds.Ident name) = true
-begins (kinds.Number value) = true
+begins (kinds.Number value unsigned) = not unsigned
 begins (kinds.Text bytes) = true
 begins (kinds.Mark m) = mark_begins m
 begins (kinds.Word w) = false
@@ -32,7 +32,7 @@ mark_begins_primary _ = false
 -- whether a primary expression may begin with a token
 abbrev pub begins_primary : TokenKind → Bool
 begins_primary (kinds.Ident name) = true
-begins_primary (kinds.Number value) = true
+begins_primary (kinds.Number value unsigned) = not unsigned
 begins_primary (kinds.Text bytes) = true
 begins_primary (kinds.Mark m) = mark_begins_primary m
 begins_primary (kinds.Word w) = false

@@ -18,10 +18,10 @@ use Rattle.c_syntax.specs.Expressions.{Unary, Cast, Binary, Conditional, Assignm
 use Rattle.c_syntax.specs.ExpressionTokens.{expr_tokens, looseness, IsExpr}
 use denote.Enum.Bare.{false_same}
 use Rattle.c_lex.specs.contracts.token.Punct.{the_type as the_marks}
-use Rattle.c_syntax.specs.Taking.{is_mark, is_word, take_word, of_mark, unary_of_mark, step_of_mark, specifier_of}
-use Rattle.c_syntax.specs.Taking.{take_mark, take_step, take_unary, take_specifiers}
-use Rattle.c_syntax.specs.Reading.{Readers, read_cast, read_unary}
-use Rattle.c_syntax.specs.Heads.{begins, begins_primary, mark_begins, mark_begins_primary}
+use Rattle.c_grammar.specs.Taking.{is_mark, is_word, take_word, of_mark, unary_of_mark, step_of_mark, specifier_of}
+use Rattle.c_grammar.specs.Taking.{take_mark, take_step, take_unary, take_specifiers}
+use Rattle.c_grammar.specs.Reading.{Readers, read_cast, read_unary}
+use Rattle.c_grammar.specs.Heads.{begins, begins_primary, mark_begins, mark_begins_primary}
 
 -- the first token of an expression
 pub record Head (t : Expr) : Type 0 where
@@ -134,7 +134,7 @@ no_mark m (kinds.Mark n) h b = false_same the_marks tt m n
     (λ (e : m ≡ n). absurd (let wrong : false ≡ true = sym h ∙ (ap mark_begins e ∙ b) in cc))
 no_mark m (kinds.Word w) h b = refl
 no_mark m (kinds.Ident name) h b = refl
-no_mark m (kinds.Number value) h b = refl
+no_mark m (kinds.Number value u) h b = refl
 no_mark m (kinds.Text bytes) h b = refl
 
 no_word : (w : Keyword) (kind : TokenKind) → begins kind ≡ true → is_word w kind ≡ false

@@ -26,20 +26,20 @@ use Rattle.c_syntax.specs.DeclarationTokens.{maybe_expr_height, maybe_array_heig
 use Rattle.c_syntax.specs.DeclarationTokens.{initialiser_height, value_height, item_height, declaration_height}
 use Rattle.c_syntax.specs.DeclarationTokens.{IsMaybeConditional, IsMaybeArray, IsParameter, IsPart, IsInitialiser}
 use Rattle.c_syntax.specs.DeclarationTokens.{IsMaybeValue, IsItem, AreItems, IsDeclaration}
-use Rattle.c_syntax.specs.Chains.{Reads, chained}
-use Rattle.c_syntax.specs.Taking.{take_mark, take_specifiers, take_pointer}
-use Rattle.c_syntax.specs.Reading.{Reader, Readers, Values}
-use Rattle.c_syntax.proofs.Sound.{Holds, HoldsStep, holds_then, step_then, holds_chain, mark_taken, specifiers_taken}
-use Rattle.c_syntax.proofs.Sound.{pointer_taken, Sound, SoundReader, SoundReaders, SoundValues, values_push}
-use Rattle.c_syntax.proofs.Sound.{first_value}
-use Rattle.c_syntax.specs.DeclarationReading.{Listed, list_at, list_step, read_more, name_from, take_name, maybe_from}
-use Rattle.c_syntax.specs.DeclarationReading.{maybe_before, array_behind, maybe_array_from, read_maybe_array}
-use Rattle.c_syntax.specs.DeclarationReading.{parameter_with, read_parameter, parameters_from, read_parameters}
-use Rattle.c_syntax.specs.DeclarationReading.{parameters_behind, part_in_parens, part_from, read_part}
-use Rattle.c_syntax.specs.DeclarationReading.{declarator_named, read_declarator, brace_close, brace_at, brace_step}
-use Rattle.c_syntax.specs.DeclarationReading.{comma_from, take_comma, initialiser_from, read_initialiser, value_from}
-use Rattle.c_syntax.specs.DeclarationReading.{item_behind, read_item, declaration_behind, declaration_with}
-use Rattle.c_syntax.specs.DeclarationReading.{read_declaration}
+use Rattle.c_grammar.specs.Chains.{Reads, chained}
+use Rattle.c_grammar.specs.Taking.{take_mark, take_specifiers, take_pointer}
+use Rattle.c_grammar.specs.Reading.{Reader, Readers, Values}
+use Rattle.c_grammar.proofs.Sound.{Holds, HoldsStep, holds_then, step_then, holds_chain, mark_taken, specifiers_taken}
+use Rattle.c_grammar.proofs.Sound.{pointer_taken, Sound, SoundReader, SoundReaders, SoundValues, values_push}
+use Rattle.c_grammar.proofs.Sound.{first_value}
+use Rattle.c_grammar.specs.DeclarationReading.{Listed, list_at, list_step, read_more, name_from, take_name, maybe_from}
+use Rattle.c_grammar.specs.DeclarationReading.{maybe_before, array_behind, maybe_array_from, read_maybe_array}
+use Rattle.c_grammar.specs.DeclarationReading.{parameter_with, read_parameter, parameters_from, read_parameters}
+use Rattle.c_grammar.specs.DeclarationReading.{parameters_behind, part_in_parens, part_from, read_part}
+use Rattle.c_grammar.specs.DeclarationReading.{declarator_named, read_declarator, brace_close, brace_at, brace_step}
+use Rattle.c_grammar.specs.DeclarationReading.{comma_from, take_comma, initialiser_from, read_initialiser, value_from}
+use Rattle.c_grammar.specs.DeclarationReading.{item_behind, read_item, declaration_behind, declaration_with}
+use Rattle.c_grammar.specs.DeclarationReading.{read_declaration}
 
 -- ---- lists with commas
 
@@ -112,7 +112,7 @@ name_taken (t ∷ ts) = by_kind t.kind t.at
     by_kind (kinds.Ident name) at = refl
     by_kind (kinds.Word w) at = refl
     by_kind (kinds.Text bytes) at = refl
-    by_kind (kinds.Number z) at = refl
+    by_kind (kinds.Number z u) at = refl
     by_kind (kinds.Mark n) at = refl
 
 -- such an expression is so loose at most

@@ -1,5 +1,5 @@
 -- Reading an expression from the front of a list of tokens, where its height may be at most so much.
-use Rattle.std.specs.Prelude.{ℕ, zero, suc, ◌&&◌, List, [], ◌∷◌, ◌++◌, Option, Some, None, nat_lt, nat_le}
+use Rattle.std.specs.Prelude.{ℕ, zero, suc, true, false, ◌&&◌, List, [], ◌∷◌, ◌++◌, Option, Some, None, nat_lt, nat_le}
 use Rattle.std.specs.Prelude.{if◌then◌else◌}
 use Rattle.pcc_base.specs.declared.span.Span.{Span}
 use Rattle.c_lex.specs.declared.token.Token.{Token}
@@ -16,9 +16,9 @@ use Rattle.c_syntax.specs.declared.expression.TextPiece.{TextPiece}
 use Rattle.c_syntax.specs.Expressions.{Star, Expr, exprs_of, Identifier, Number, Text, Parenthesised, Call, Index}
 use Rattle.c_syntax.specs.Expressions.{Postfix, Prefix, Unary, Cast, Binary, Conditional, Assignment}
 use Rattle.c_syntax.specs.ExpressionTokens.{expr_height, looseness}
-use Rattle.c_syntax.specs.Chains.{Step, Done, Fails, Goes, Reads, then_read, then_step, chained}
-use Rattle.c_syntax.specs.Taking.{is_mark, take_mark, take_unary, take_step, take_assign, take_binary, take_texts}
-use Rattle.c_syntax.specs.Taking.{take_specifiers, take_pointer}
+use Rattle.c_grammar.specs.Chains.{Step, Done, Fails, Goes, Reads, then_read, then_step, chained}
+use Rattle.c_grammar.specs.Taking.{is_mark, take_mark, take_unary, take_step, take_assign, take_binary, take_texts}
+use Rattle.c_grammar.specs.Taking.{take_specifiers, take_pointer}
 
 abbrev pub Reader : Type 0
 Reader = List Token → Reads Expr
@@ -71,7 +71,8 @@ text_from first others = Some (Text (first ∷ others.0), others.1)
 abbrev pub primary_at : Readers → TokenKind → Span → List Token → Reads Expr
 primary_at below (kinds.Ident name) at ts =
     call_from below (record { name = name; at = at }) (take_mark marks.LeftParen ts) ts
-primary_at below (kinds.Number value) at ts = Some (Number value at, ts)
+primary_at below (kinds.Number value true) at ts = None
+primary_at below (kinds.Number value false) at ts = Some (Number value at, ts)
 primary_at below (kinds.Text bytes) at ts = text_from (record { bytes = bytes; at = at }) (take_texts ts)
 primary_at below (kinds.Mark m) at ts = if is_mark marks.LeftParen (kinds.Mark m) then parenthesised_from below at ts
     else None

@@ -26,20 +26,20 @@ use Rattle.c_syntax.specs.Expressions.{Expr, exprs_of, Postfix}
 use Rattle.c_syntax.specs.ExpressionTokens.{expr_tokens, exprs_tokens, more_tokens, text_tokens, specifiers_tokens}
 use Rattle.c_syntax.specs.ExpressionTokens.{consts_tokens, pointer_tokens, expr_height, exprs_height, looseness}
 use Rattle.c_syntax.specs.ExpressionTokens.{IsExpr, AreValues, Separate, Follow, binary_level}
-use Rattle.c_syntax.proofs.Values.{exprs_height-push}
-use Rattle.c_syntax.specs.Chains.{Step, Done, Fails, Goes, Reads, then_read, then_step, chain, chain_on, chained}
-use Rattle.c_syntax.specs.Taking.{is_mark, is_word, of_mark, binary_of_mark, unary_of_mark, step_of_mark}
-use Rattle.c_syntax.specs.Taking.{assign_of_mark, specifier_of, specifier_of_word, at_level, taken, take_by, take_mark}
-use Rattle.c_syntax.specs.Taking.{take_word, take_unary, take_step, take_assign, take_binary, take_texts, texts_from}
-use Rattle.c_syntax.specs.Taking.{take_specifiers, specifiers_from, take_consts, take_pointer, pointer_from}
-use Rattle.c_syntax.specs.Taking.{with_front}
-use Rattle.c_syntax.specs.Reading.{Reader, Readers, Values, readers, readers_over, value_at, value_step}
-use Rattle.c_syntax.specs.Reading.{arguments_from, read_arguments, call_from, parenthesised_from, primary_at}
-use Rattle.c_syntax.specs.Reading.{read_primary, postfix_from, suffix_from, suffix_step, read_postfix, unary_from}
-use Rattle.c_syntax.specs.Reading.{prefix_from, read_unary, cast_with, cast_from, read_cast, infix_from, infix_step}
-use Rattle.c_syntax.specs.Reading.{read_infix, read_binary, conditional_from, read_conditional, assignment_from}
-use Rattle.c_syntax.specs.Reading.{read_assignment, read_expression}
-use Rattle.c_syntax.proofs.Reading.{readers-none, readers-suc}
+use Rattle.c_grammar.proofs.Values.{exprs_height-push}
+use Rattle.c_grammar.specs.Chains.{Step, Done, Fails, Goes, Reads, then_read, then_step, chain, chain_on, chained}
+use Rattle.c_grammar.specs.Taking.{is_mark, is_word, of_mark, binary_of_mark, unary_of_mark, step_of_mark}
+use Rattle.c_grammar.specs.Taking.{assign_of_mark, specifier_of, specifier_of_word, at_level, taken, take_by, take_mark}
+use Rattle.c_grammar.specs.Taking.{take_word, take_unary, take_step, take_assign, take_binary, take_texts, texts_from}
+use Rattle.c_grammar.specs.Taking.{take_specifiers, specifiers_from, take_consts, take_pointer, pointer_from}
+use Rattle.c_grammar.specs.Taking.{with_front}
+use Rattle.c_grammar.specs.Reading.{Reader, Readers, Values, readers, readers_over, value_at, value_step}
+use Rattle.c_grammar.specs.Reading.{arguments_from, read_arguments, call_from, parenthesised_from, primary_at}
+use Rattle.c_grammar.specs.Reading.{read_primary, postfix_from, suffix_from, suffix_step, read_postfix, unary_from}
+use Rattle.c_grammar.specs.Reading.{prefix_from, read_unary, cast_with, cast_from, read_cast, infix_from, infix_step}
+use Rattle.c_grammar.specs.Reading.{read_infix, read_binary, conditional_from, read_conditional, assignment_from}
+use Rattle.c_grammar.specs.Reading.{read_assignment, read_expression}
+use Rattle.c_grammar.proofs.Reading.{readers-none, readers-suc}
 
 -- ---- what holds of what is read
 
@@ -103,14 +103,14 @@ mark_is : (m : Punct) (kind : TokenKind) → is_mark m kind ≡ true → kind �
 mark_is m (kinds.Mark n) e = ap kinds.Mark (sym (same_true the_marks tt m n e))
 mark_is m (kinds.Word w) e = absurd (let wrong : false ≡ true = e in cc)
 mark_is m (kinds.Ident name) e = absurd (let wrong : false ≡ true = e in cc)
-mark_is m (kinds.Number z) e = absurd (let wrong : false ≡ true = e in cc)
+mark_is m (kinds.Number z u) e = absurd (let wrong : false ≡ true = e in cc)
 mark_is m (kinds.Text bytes) e = absurd (let wrong : false ≡ true = e in cc)
 
 word_is : (w : Keyword) (kind : TokenKind) → is_word w kind ≡ true → kind ≡ kinds.Word w
 word_is w (kinds.Word v) e = ap kinds.Word (sym (same_true the_words tt w v e))
 word_is w (kinds.Mark n) e = absurd (let wrong : false ≡ true = e in cc)
 word_is w (kinds.Ident name) e = absurd (let wrong : false ≡ true = e in cc)
-word_is w (kinds.Number z) e = absurd (let wrong : false ≡ true = e in cc)
+word_is w (kinds.Number z u) e = absurd (let wrong : false ≡ true = e in cc)
 word_is w (kinds.Text bytes) e = absurd (let wrong : false ≡ true = e in cc)
 
 pub mark_taken : (m : Punct) (ts : List Token) → Holds (λ at us. ts ≡ mark m at ∷ us) (take_mark m ts)
@@ -252,7 +252,7 @@ texts_taken (t ∷ ts) = by_kind t.kind t.at (texts_taken ts)
         h
     by_kind (kinds.Word w) at h = refl
     by_kind (kinds.Ident name) at h = refl
-    by_kind (kinds.Number z) at h = refl
+    by_kind (kinds.Number z u) at h = refl
     by_kind (kinds.Mark n) at h = refl
 
 specifier_of_is : (kind : TokenKind) → Holds1 (λ s. kind ≡ kinds.Word (specifier_word s)) (specifier_of kind)
@@ -460,7 +460,8 @@ sound_parens n b sb o ts =
 sound_at : (n : ℕ) (b : Readers) → SoundReaders n b → (kind : TokenKind) (at : Span) (ts : List Token)
     → (let x : Token = record { kind = kind; at = at } in Holds (Sound 0 (suc n) (x ∷ ts)) (primary_at b kind at ts))
 sound_at n b sb (kinds.Ident name) at ts = sound_call n b sb (record { name = name; at = at }) ts
-sound_at n b sb (kinds.Number value) at ts = record { tokens = refl; is = tt; loose = omega arith; low = omega arith }
+sound_at n b sb (kinds.Number value true) at ts = tt
+sound_at n b sb (kinds.Number value false) at ts = record { tokens = refl; is = tt; loose = omega arith; low = omega arith }
 sound_at n b sb (kinds.Text bytes) at ts =
     record {
       tokens = ap (λ zs. (let x : Token = record { kind = kinds.Text bytes; at = at } in x) ∷ zs)

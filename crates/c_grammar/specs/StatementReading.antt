@@ -10,10 +10,10 @@ use Rattle.c_syntax.specs.Declarations.{PartTree, Function, DeclaratorTree, Decl
 use Rattle.c_syntax.specs.Statements.{LabelTree, Case, Default, Stmt, Declared, Labelled, Block, Simple, If, IfElse}
 use Rattle.c_syntax.specs.Statements.{Switch, While, Do, For, ForDeclaration, Break, Continue, Return, stmts_of}
 use Rattle.c_syntax.specs.Statements.{ExternalTree, FunctionTree, DeclaredTree}
-use Rattle.c_syntax.specs.Chains.{Step, Done, Goes, Reads, then_read, then_step, chained}
-use Rattle.c_syntax.specs.Taking.{take_mark, take_word, take_specifiers}
-use Rattle.c_syntax.specs.Reading.{Reader, Readers, readers, no_readers}
-use Rattle.c_syntax.specs.DeclarationReading.{maybe_before, read_declarator, declaration_behind, read_declaration}
+use Rattle.c_grammar.specs.Chains.{Step, Done, Goes, Reads, then_read, then_step, chained}
+use Rattle.c_grammar.specs.Taking.{take_mark, take_word, take_specifiers}
+use Rattle.c_grammar.specs.Reading.{Reader, Readers, readers, no_readers}
+use Rattle.c_grammar.specs.DeclarationReading.{maybe_before, read_declarator, declaration_behind, read_declaration}
 
 abbrev pub StmtReader : Type 0
 StmtReader = List Token → Reads Stmt

@@ -23,17 +23,17 @@ use Rattle.c_syntax.specs.Expressions.{OneExpr}
 use Rattle.c_syntax.specs.ExpressionTokens.{expr_tokens, exprs_tokens, more_tokens, specifiers_tokens, consts_tokens}
 use Rattle.c_syntax.specs.ExpressionTokens.{pointer_tokens, expr_height, exprs_height, looseness, IsExpr, AreValues}
 use Rattle.c_syntax.specs.ExpressionTokens.{Separate, Follow, binary_level}
-use Rattle.c_syntax.specs.Chains.{Goes, Reads, chained}
-use Rattle.c_syntax.proofs.Chains.{Continues, continues_start, continues_from, continues_goes, continues_done}
-use Rattle.c_syntax.specs.Taking.{specifier_of_word, take_mark, take_specifiers, take_consts, take_pointer}
-use Rattle.c_syntax.specs.Reading.{Reader, Readers, Values, readers, readers_over, value_step, suffix_step, infix_step}
-use Rattle.c_syntax.specs.Reading.{read_arguments, read_primary, read_postfix, read_unary, read_cast, read_infix}
-use Rattle.c_syntax.specs.Reading.{read_binary, read_conditional, read_assignment, read_expression}
-use Rattle.c_syntax.proofs.Reading.{cast_reads, readers-suc}
-use Rattle.c_syntax.proofs.Stops.{mark_joins, joins, Stops, stops_tighter, stops_mark, stops_step, stops_assign}
-use Rattle.c_syntax.proofs.Stops.{stops_binary, takes_step, takes_unary, takes_assign, takes_binary, takes_texts}
-use Rattle.c_syntax.proofs.Stops.{unary_no_step, binary_joins, assign_joins, step_joins, step_no_bracket}
-use Rattle.c_syntax.proofs.Heads.{expression_no_mark, postfix_no_step, postfix_no_unary, no_cast}
+use Rattle.c_grammar.specs.Chains.{Goes, Reads, chained}
+use Rattle.c_grammar.proofs.Chains.{Continues, continues_start, continues_from, continues_goes, continues_done}
+use Rattle.c_grammar.specs.Taking.{specifier_of_word, take_mark, take_specifiers, take_consts, take_pointer}
+use Rattle.c_grammar.specs.Reading.{Reader, Readers, Values, readers, readers_over, value_step, suffix_step, infix_step}
+use Rattle.c_grammar.specs.Reading.{read_arguments, read_primary, read_postfix, read_unary, read_cast, read_infix}
+use Rattle.c_grammar.specs.Reading.{read_binary, read_conditional, read_assignment, read_expression}
+use Rattle.c_grammar.proofs.Reading.{cast_reads, readers-suc}
+use Rattle.c_grammar.proofs.Stops.{mark_joins, joins, Stops, stops_tighter, stops_mark, stops_step, stops_assign}
+use Rattle.c_grammar.proofs.Stops.{stops_binary, takes_step, takes_unary, takes_assign, takes_binary, takes_texts}
+use Rattle.c_grammar.proofs.Stops.{unary_no_step, binary_joins, assign_joins, step_joins, step_no_bracket}
+use Rattle.c_grammar.proofs.Heads.{expression_no_mark, postfix_no_step, postfix_no_unary, no_cast}
 
 -- a reader finds the trees that are at most so loose and so high
 abbrev pub Finds : ℕ → ℕ → Reader → Type 0

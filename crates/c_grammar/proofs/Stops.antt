@@ -21,8 +21,8 @@ use Rattle.c_syntax.specs.declared.operator.AssignOp.TheVariants as assign
 use Rattle.c_syntax.specs.declared.expression.TextPiece.{TextPiece}
 use Rattle.c_syntax.specs.Marks.{mark, binary_mark, unary_mark, step_mark, assign_mark}
 use Rattle.c_syntax.specs.ExpressionTokens.{binary_level, text_tokens}
-use Rattle.c_syntax.specs.Taking.{is_mark, of_mark, binary_of_mark, step_of_mark, assign_of_mark, at_level, take_mark}
-use Rattle.c_syntax.specs.Taking.{take_step, take_unary, take_assign, take_binary, take_texts, texts_from}
+use Rattle.c_grammar.specs.Taking.{is_mark, of_mark, binary_of_mark, step_of_mark, assign_of_mark, at_level, take_mark}
+use Rattle.c_grammar.specs.Taking.{take_step, take_unary, take_assign, take_binary, take_texts, texts_from}
 
 -- how loose a rule is that goes on with a mark behind its first part; 17 where none does
 abbrev pub mark_joins : Punct → ℕ
@@ -87,7 +87,7 @@ not_mark m c (kinds.Mark n) s h =
 not_mark m c (kinds.Text bytes) s h = refl
 not_mark m c (kinds.Word w) s h = refl
 not_mark m c (kinds.Ident name) s h = refl
-not_mark m c (kinds.Number z) s h = refl
+not_mark m c (kinds.Number z u) s h = refl
 
 pub stops_mark : (m : Punct) (c : ℕ) (ts : List Token) → Stops c ts → mark_joins m ≤ c → take_mark m ts ≡ None
 stops_mark m c [] s h = refl
@@ -165,7 +165,7 @@ no_binary k c (kinds.Mark n) s h = no_level k c (mark_joins n) (binary_of_mark n
 no_binary k c (kinds.Text bytes) s h = refl
 no_binary k c (kinds.Word w) s h = refl
 no_binary k c (kinds.Ident name) s h = refl
-no_binary k c (kinds.Number z) s h = refl
+no_binary k c (kinds.Number z u) s h = refl
 
 pub stops_binary : (k c : ℕ) (ts : List Token) → Stops c ts → k + 3 ≤ c → take_binary k ts ≡ None
 stops_binary k c [] s h = refl

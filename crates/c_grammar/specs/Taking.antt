@@ -25,7 +25,7 @@ use Rattle.c_syntax.specs.declared.expression.Specifier.{Specifier}
 use Rattle.c_syntax.specs.declared.expression.TextPiece.{TextPiece}
 use Rattle.c_syntax.specs.Expressions.{Star}
 use Rattle.c_syntax.specs.ExpressionTokens.{binary_level}
-use Rattle.c_syntax.specs.Chains.{Reads}
+use Rattle.c_grammar.specs.Chains.{Reads}
 
 -- ---- kinds of token
 

@@ -1,7 +1,7 @@
 -- Reading in a loop: from what was read so far, one step reads one part more, finds the end, or fails.
 use Rattle.std.proofs.Common.{◌≡◌, ℕ, zero, suc, ◌≤◌, ◌<◌, List, length, Some, None, refl, ◌∙◌, arith}
 use Rattle.c_lex.specs.declared.token.Token.{Token}
-use Rattle.c_syntax.specs.Chains.{Done, Fails, Goes, Reads, Step, chain, chained, then_read}
+use Rattle.c_grammar.specs.Chains.{Done, Fails, Goes, Reads, Step, chain, chained, then_read}
 
 -- what is read in all is what the steps from here read
 pub record Continues {A : Type 0} (step : A → List Token → Step A) (a : A) (ts : List Token) (out : Reads A) : Type 0

@@ -25,19 +25,19 @@ use Rattle.c_syntax.specs.DeclarationTokens.{parameter_height, part_height, init
 use Rattle.c_syntax.specs.DeclarationTokens.{item_height, declaration_height, IsMaybeConditional, IsMaybeArray}
 use Rattle.c_syntax.specs.DeclarationTokens.{IsParameter, IsPart, IsInitialiser, IsMaybeValue, IsItem, AreItems}
 use Rattle.c_syntax.specs.DeclarationTokens.{IsDeclaration}
-use Rattle.c_syntax.specs.Chains.{Done, Goes, Reads, chained}
-use Rattle.c_syntax.proofs.Chains.{Continues, continues_start, continues_goes, continues_done}
-use Rattle.c_syntax.specs.Taking.{take_mark, take_specifiers, take_pointer}
-use Rattle.c_syntax.specs.Reading.{Reader, Readers, Values}
-use Rattle.c_syntax.proofs.Stops.{Stops}
-use Rattle.c_syntax.specs.Heads.{mark_begins}
-use Rattle.c_syntax.proofs.Heads.{expression_no_mark}
-use Rattle.c_syntax.proofs.Complete.{Finds, Complete, list_of, exprs_of_list, takes_specifiers}
-use Rattle.c_syntax.proofs.Complete.{takes_pointer, pointer_no_specifier, NoSpecifier, NoConst}
-use Rattle.c_syntax.specs.DeclarationReading.{Listed, list_step, read_more, take_name, maybe_before, array_behind}
-use Rattle.c_syntax.specs.DeclarationReading.{read_maybe_array, read_parameter, read_parameters, read_part}
-use Rattle.c_syntax.specs.DeclarationReading.{read_declarator, brace_step, take_comma, braces_behind, read_initialiser}
-use Rattle.c_syntax.specs.DeclarationReading.{value_from, read_item, declaration_behind, read_declaration}
+use Rattle.c_grammar.specs.Chains.{Done, Goes, Reads, chained}
+use Rattle.c_grammar.proofs.Chains.{Continues, continues_start, continues_goes, continues_done}
+use Rattle.c_grammar.specs.Taking.{take_mark, take_specifiers, take_pointer}
+use Rattle.c_grammar.specs.Reading.{Reader, Readers, Values}
+use Rattle.c_grammar.proofs.Stops.{Stops}
+use Rattle.c_grammar.specs.Heads.{mark_begins}
+use Rattle.c_grammar.proofs.Heads.{expression_no_mark}
+use Rattle.c_grammar.proofs.Complete.{Finds, Complete, list_of, exprs_of_list, takes_specifiers}
+use Rattle.c_grammar.proofs.Complete.{takes_pointer, pointer_no_specifier, NoSpecifier, NoConst}
+use Rattle.c_grammar.specs.DeclarationReading.{Listed, list_step, read_more, take_name, maybe_before, array_behind}
+use Rattle.c_grammar.specs.DeclarationReading.{read_maybe_array, read_parameter, read_parameters, read_part}
+use Rattle.c_grammar.specs.DeclarationReading.{read_declarator, brace_step, take_comma, braces_behind, read_initialiser}
+use Rattle.c_grammar.specs.DeclarationReading.{value_from, read_item, declaration_behind, read_declaration}
 
 -- a mark is taken
 pub takes_mark : (m : Punct) (at : Span) (ts : List Token) → take_mark m (mark m at ∷ ts) ≡ Some (at, ts)

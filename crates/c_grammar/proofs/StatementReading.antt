@@ -1,6 +1,6 @@
 -- Reading statements and units from the front of a list of tokens, where a height may be at most so much.
 use Rattle.std.proofs.Common.{◌≡◌, ℕ, zero, suc, ◌-◌, ◌<◌, refl, arith}
-use Rattle.c_syntax.specs.StatementReading.{below_of, below_over, nothing_below}
+use Rattle.c_grammar.specs.StatementReading.{below_of, below_over, nothing_below}
 
 pub below_of-none : below_of 0 ≡ nothing_below
 unfolding below_of

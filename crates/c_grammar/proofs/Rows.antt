@@ -2,7 +2,7 @@
 use Rattle.std.proofs.Common.{◌≡◌, List, [], ◌∷◌, ◌++◌, ap, sym, ◌∙◌, append_assoc}
 use Rattle.std.proofs.lemmas.List.{append-nil}
 use Rattle.c_lex.specs.declared.token.Token.{Token}
-use Rattle.c_syntax.specs.Taking.{with_front, prefixed}
+use Rattle.c_grammar.specs.Taking.{with_front, prefixed}
 
 -- a row that goes on with one more
 pub prefixed_more : {A : Type 0} (xs : List A) (x : A) (r s out : List A × List Token) → prefixed xs r ≡ out → r
