@@ -1,4 +1,4 @@
-"""Tests of the scripts that read maps: which texts are maps, what the auditor finds, the numbers of statements, and the viewer's boards."""
+"""Tests of the scripts that read maps: which texts are maps, what the auditor finds, and the numbers of statements."""
 import importlib.machinery
 import importlib.util
 import os
@@ -205,21 +205,6 @@ class Programs(unittest.TestCase):
         with open(self.image, "rb") as file:
             image = file.read()
         self.assertEqual(sorted(tool("view-map").instructions(image)), sorted(machine.instructions_of(image)))
-
-    def test_boards_are_shown(self):
-        f = maps.read(self.text).functions[0]
-        point = f.points()[0]
-        done = subprocess.run([f"{TOP}/tools/view-map", "-p", f"{f.name}:{point.number}", f"{self.image}.map"], capture_output=True, text=True, check=True)
-        self.assertTrue(done.stdout.startswith(f"point {point.number} of {f.name} at {point.address:08x}: "))
-        self.assertIn("spill order", done.stdout)
-
-    def test_page_is_made(self):
-        page = f"{self.room}/page.html"
-        subprocess.run([f"{TOP}/tools/view-map", "-o", page, f"{self.image}.map", self.image, f"{TOP}/examples/strings.c"], capture_output=True, check=True)
-        with open(page, encoding="utf-8") as file:
-            text = file.read()
-        self.assertNotIn("DATA</script>", text)
-        self.assertIn('"functions":[', text)
 
 
 if __name__ == "__main__":
