@@ -29,7 +29,8 @@ class Program:
     """The map of the image that gdb has, and where the statements of its sources stand."""
 
     def __init__(self):
-        self.name, self.map, self.places, self.numbered, self.started = None, None, [], [], None
+        self.name, self.map, self.places, self.numbered = None, None, [], []
+        self.started = {}  # for each frame, by its EBP, the statement that started last
 
     def read(self):
         name = gdb.current_progspace().filename
@@ -157,8 +158,8 @@ def locals_at(f, point):
 def here():
     """The function and the point at which the program stands."""
     f, point = PROGRAM.read().point_at(register("eip"))
-    if point is None:
-        raise gdb.GdbError("the program stands at no point of the map")
+    if point is None or has_failed():
+        raise gdb.GdbError("the program stands at no point of the map" if point is None else "a check has failed; `pcc-where` says more")
     return f, point
 
 
@@ -217,8 +218,9 @@ class Where(gdb.Command):
             print(f"{f.name}, point {point.number}, statement {number}{place_of(number)}")
             return
         f, called = function_now(), caller()
-        if program.started is not None:
-            print(f"a check failed in {f.name}, statement {program.started}{place_of(program.started)}")
+        started = program.started.get(register("ebp"))
+        if started is not None:
+            print(f"a check failed in {f.name}, statement {started}{place_of(started)}")
         elif called:
             number = program.statement_of(*called)
             print(f"a check failed in {f.name}, called by statement {number}{place_of(number)}; after `pcc-trace` and `run` the statement is known")
@@ -238,10 +240,10 @@ class Note(gdb.Breakpoint):
 
     def __init__(self, address, number):
         super().__init__(f"*{address:#x}", internal=True)
-        self.silent, self.started = True, number
+        self.silent, self.number_of_statement = True, number
 
     def stop(self):
-        PROGRAM.started = self.started
+        PROGRAM.started[register("ebp")] = self.number_of_statement
         return False
 
 
