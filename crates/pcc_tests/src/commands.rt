@@ -90,7 +90,7 @@ selftest 1 => -o <NAME>
 selftest -o g => <N>
 selftest -o g x => invalid value 'x'
 gcc a.c => 'gcc'
---help =>   compile  Compiles C files =>   solve\x20
+--help =>   compile   Compiles C files =>   solve\x20
 run --help => --steps <N> => [default: 1000000000]
 compile -h => -o <NAME> => its map is NAME.map";
 
