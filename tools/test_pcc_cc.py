@@ -1,5 +1,6 @@
 """Tests of bin/pcc-cc: what it answers on mistakes that people make, and what it writes."""
 import os
+import resource
 import shutil
 import stat
 import subprocess
@@ -135,6 +136,15 @@ class Compiling(unittest.TestCase):
         self.assertEqual((limit.returncode, limit.stderr), (3, "pcc-cc: limit 22 Frame main 16388\n"))
         with open(f"{self.room}/a.c", encoding="utf-8") as file:
             self.assertIn("main", file.read())
+
+    def test_limit_on_the_size_of_a_file_refuses_a_write(self):
+        self.call("int main(void) { return 0; }\n", "-o", "copy")
+        size = os.path.getsize(f"{self.room}/copy.map")
+        for least, name in ((size - 1, "copy.map"), (size, "copy")):
+            limits = (least, resource.RLIM_INFINITY)
+            done = subprocess.run([f"{TOP}/bin/pcc", "compile", "-o", "copy", "a.c"], cwd=self.room, capture_output=True, text=True, check=False,
+                                  preexec_fn=lambda: resource.setrlimit(resource.RLIMIT_FSIZE, limits))
+            self.assertEqual((done.returncode, done.stderr), (5, f"write fault {name}\n"))
 
 
 if __name__ == "__main__":
