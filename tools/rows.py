@@ -171,17 +171,16 @@ class Meaning:
             return terms.zero_extended(INPUT) if ("byte",) in path.events else terms.MASK
         return self.result
 
-    def happens(self, path, target):
-        """What must have happened on a path to a point."""
+    def may_happen(self, path, target):
+        """What may have happened on a path to a point: lists of events."""
         if self.op.name == "getchar":
-            return [("byte",)] if ("byte",) in path.events else [("no byte",)]
+            return [[("byte",)] if ("byte",) in path.events else [("no byte",)]]
         if self.op.name != "branch":
-            return self.events
+            return [self.events]
         how, first, second = self.words[1], self.value(2), self.value(3)
         taken, other = (self.f.blocks[b][0].address for b in map(int, self.words[4:6]))
-        holds = [it for name, to in ((how, taken), (terms.opposite(how), other)) if to == target
-                 for it in [terms.condition(name, first, second)] if it is not False]
-        return [("if", it) for it in holds if it is not True] if len(holds) < 2 else path.events
+        holds = [terms.condition(name, first, second) for name, to in ((how, taken), (terms.opposite(how), other)) if to == target]
+        return [[] if it is True else [("if", it)] for it in holds if it is not False]
 
 
 class Rows:
@@ -256,7 +255,7 @@ class Rows:
                 self.check_left(point, path, meaning)
                 continue
             check(not path.end and path.eip in targets, point.line, f"its code leads elsewhere: to {path.end or hex(path.eip)}")
-            check(path.events == meaning.happens(path, path.eip), point.line, "its code checks, calls or writes otherwise")
+            check(path.events in meaning.may_happen(path, path.eip), point.line, "its code checks, calls or writes otherwise")
             after = self.points[path.eip][1]
             for v, place in after.before.items():
                 check(shows(path, {v: place}), point.line, f"its code doesn't bring variable {v} to {place} of point {after.number}")

@@ -39,8 +39,8 @@ class Debugging(unittest.TestCase):
             file.write("\n".join([f"source {TOP}/tools/gdb-pcc.py", f"pcc-sources {SOURCE}", *commands]).replace("RUN", f"run < {self.room}/given"))
         words = ["gdb", "-nx", "-q", "-batch", "-x", f"{self.room}/commands", self.image]
         done = subprocess.run(words, stdin=subprocess.DEVNULL, capture_output=True, text=True, timeout=100, check=False)
-        return [row for row in done.stdout.split("\n") if row and not re.match(r"Breakpoint|0x|\[Inferior|Using host|warning|Download", row)] + [
-            row for row in done.stderr.split("\n") if "Error" in row or "error" in row]
+        self.refused = done.stderr
+        return [row for row in done.stdout.split("\n") if row and not re.match(r"Breakpoint|0x|\[Inferior|Using host|warning|Download", row)]
 
     def test_locals_and_places(self):
         at, inner = line_of("if (got == 't')"), line_of("total += a[k]")
@@ -65,7 +65,10 @@ class Debugging(unittest.TestCase):
         self.assertRegex(said[-1], rf"share, point \d+, statement \d+, {re.escape(SOURCE)}:{line_of('return half / of')}$")
 
     def test_other_words_are_refused(self):
-        self.assertIn("no statement begins on line 900", "\n".join(self.debug("", "pcc-break debugged.c:900")))
+        for words, said in (("pcc-break debugged.c:900", "no statement begins on line 900 of debugged.c"), ("pcc-break debugged.c", "pcc-break FILE:LINE"),
+                            (f"pcc-sources {TOP}/examples/return.c", "they don't belong together")):
+            self.debug("", words)
+            self.assertIn(said, self.refused)
 
 
 if __name__ == "__main__":
