@@ -18,7 +18,7 @@ for line in open(sys.argv[1] + "/crates.txt"):
     if found:
         below[found[1]] = found[2].split()
 wanted = set()
-left = "c_lex c_front lower ia32_select".split()
+left = "c_lex c_front lower flow_liveness allocator ia32_select".split()
 while left:
     name = left.pop()
     if name in below and name not in wanted:
@@ -37,12 +37,14 @@ cat >crates/lowering/src/main.rt <<'PROGRAM'
 //! Lowers the program of each file that a word names, and prints what comes of it.
 #![tactic(auto)]
 
-use c_lex::lex;
+use allocator::{allocate, split};
 use c_front::typed_program;
+use c_lex::lex;
 use c_tree::Program;
 use flow_graph::{Graph, Op};
-use ia32_select::{Frame, select_function};
+use flow_liveness::{live, next_use};
 use ia32_insn::Item;
+use ia32_select::select;
 use lower::lower;
 use pcc_base::NoMemory;
 use std::alloc::Global;
@@ -75,14 +77,11 @@ fn points_of(alloc: Global, graph: &Graph) -> Result<(usize, usize), NoMemory> {
 
 /// The instructions of a function, where each mark's is counted too.
 fn instructions_of(alloc: Global, graph: &Graph) -> Result<usize, NoMemory> {
-    let frame = Frame::of(alloc, graph)?;
-    let items = select_function(
-        alloc,
-        graph,
-        frame.bytes,
-        frame.arrays.as_slice(),
-        frame.variables.as_slice(),
-    )?;
+    let sets = live(alloc, graph)?;
+    let form = split(alloc, graph, &sets)?;
+    let distances = next_use(alloc, graph)?;
+    let map = allocate(alloc, &form, &distances)?;
+    let items = select(alloc, graph, &map)?;
     let mut count = 0;
     for item in items.as_slice() {
         match item {

@@ -34,9 +34,9 @@ kind_int : (fresh : Bool) (rest : List ℕ) (n : ℕ) (kind : TokenKind) → IsP
     → HasIntIfAny kind
 kind_int fresh rest n (kinds.Word word) h = tt
 kind_int fresh rest n (kinds.Ident name) h = tt
-kind_int fresh rest n (kinds.Number z) (inl (text, longest, (value, c, is))) =
+kind_int fresh rest n (kinds.Number z u) (s, inl (text, longest, (value, c, is))) =
     subst IsInt (sym is) (constant_int value c.1)
-kind_int fresh rest n (kinds.Number z) (inr c) = character_int (take n rest) z c
+kind_int fresh rest n (kinds.Number z u) (s, inr c) = character_int (take n rest) z c
 kind_int fresh rest n (kinds.Text bytes) h = tt
 kind_int fresh rest n (kinds.Mark mark) h = tt
 

@@ -59,7 +59,7 @@ piece_spelled fresh rest n Comment at h = tt
 piece_spelled fresh rest n Skipped at h = tt
 piece_spelled fresh rest n (Spelled (kinds.Ident name)) at h = (word_name name h.1, tt)
 piece_spelled fresh rest n (Spelled (kinds.Word w)) at h = (tt, tt)
-piece_spelled fresh rest n (Spelled (kinds.Number z)) at h = (tt, tt)
+piece_spelled fresh rest n (Spelled (kinds.Number z u)) at h = (tt, tt)
 piece_spelled fresh rest n (Spelled (kinds.Text bytes)) at h = (tt, tt)
 piece_spelled fresh rest n (Spelled (kinds.Mark m)) at h = (tt, tt)
 

@@ -11,7 +11,7 @@ use Rattle.c_tree.specs.Program.{Local, LocalArray, Function}
 abbrev pub HasNameIfAny : TokenKind → Type 0
 HasNameIfAny (tokens.Word word) = Unit {0}
 HasNameIfAny (tokens.Ident name) = IsName name
-HasNameIfAny (tokens.Number n) = Unit {0}
+HasNameIfAny (tokens.Number n unsigned) = Unit {0}
 HasNameIfAny (tokens.Text bytes) = Unit {0}
 HasNameIfAny (tokens.Mark mark) = Unit {0}
 

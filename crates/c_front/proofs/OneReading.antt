@@ -15,7 +15,7 @@ use Rattle.c_lex.proofs.OneReading.{none_at_end, one_list, tokens_or_fault}
 use Rattle.c_syntax.specs.Marks.{word}
 use Rattle.c_syntax.specs.Statements.{ExternalTree}
 use Rattle.c_syntax.specs.Grammar.{Tree}
-use Rattle.c_syntax.proofs.StatementComplete.{one_tree}
+use Rattle.c_grammar.proofs.StatementComplete.{one_tree}
 use Rattle.c_parse.specs.ParserRefusals.{is_outside, NoneUnsupported}
 use Rattle.c_front.specs.Accepted.{HasTree, HaveTokens, HaveTrees, total}
 use Rattle.c_front.specs.Refusals.{FaultBehind, FirstFaulty, HaveLexicalFault, HaveManyTokens, IsFaultyIn, StandBefore}

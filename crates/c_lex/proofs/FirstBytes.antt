@@ -64,8 +64,8 @@ kind_of fresh b others m (Spelled (kinds.Word word)) h =
     let w = subst IsWord (sym h) (keyword_is_word word) in Worded w.0 w.1
 kind_of fresh b others m (Spelled (kinds.Ident name)) h =
     let w = subst IsWord (sym (h.0 ∙ h.1.2)) (h.1.3, (letter_in_word h.1.0 h.1.3, h.1.4)) in Worded w.0 w.1
-kind_of fresh b others m (Spelled (kinds.Number z)) (inl h) = Numbered (starts_number b others m h.0)
-kind_of fresh b others m (Spelled (kinds.Number z)) (inr h) = let e = h.1.1 in Quoted cc
+kind_of fresh b others m (Spelled (kinds.Number z u)) (s, inl h) = Numbered (starts_number b others m h.0)
+kind_of fresh b others m (Spelled (kinds.Number z u)) (s, inr h) = let e = h.1.1 in Quoted cc
 kind_of fresh b others m (Spelled (kinds.Text bytes)) h = let e = h.1 in DoubleQuoted cc
 kind_of fresh b others m (Spelled (kinds.Mark mark)) h = Marked mark h
 

@@ -258,8 +258,8 @@ digit_piece fresh b others m (Spelled (kinds.Word word)) digit is = let first =
     piece_starts fresh b others m (Spelled (kinds.Word word)) is in absurd (grind (arith, nat_tests))
 digit_piece fresh b others m (Spelled (kinds.Ident name)) digit is = let first =
     piece_starts fresh b others m (Spelled (kinds.Ident name)) is in absurd (grind (arith, nat_tests))
-digit_piece fresh b others m (Spelled (kinds.Number z)) digit (inl h) = h.0
-digit_piece fresh b others m (Spelled (kinds.Number z)) digit (inr (value, (inside, e, has), is)) =
+digit_piece fresh b others m (Spelled (kinds.Number z u)) digit (s, inl h) = h.0
+digit_piece fresh b others m (Spelled (kinds.Number z u)) digit (s, inr (value, (inside, e, has), is)) =
     let quote : IsTrue (b == apostrophe) =
     same_first (λ x. x == apostrophe) b (take m others) (apostrophe ∷ inside ++ apostrophe ∷ []) e refl in
     absurd (grind (arith, nat_tests))
@@ -299,7 +299,7 @@ digit_longest fresh b others n digit longest (suc m) other less within is =
 -- the longest number, where it is a constant, is the piece
 pub number_begins : (fresh : Bool) (rest : List ℕ) (n value : ℕ) → n ≤ length rest → IsNumberText (take n rest)
     → ((m : ℕ) → n < m → m ≤ length rest → IsNumberText (take m rest) → ⊥)
-    → IsConstant (take n rest) value → Begins fresh rest n (Spelled (kinds.Number (pos value)))
+    → IsConstant (take n rest) value → Begins fresh rest n (Spelled (kinds.Number (pos value) false))
 number_begins fresh rest zero value within text longest constant = absurd text
 number_begins fresh [] (suc n) value within text longest constant = absurd (omega arith)
 number_begins fresh (b ∷ others) (suc n) value within text longest constant =
@@ -307,7 +307,7 @@ number_begins fresh (b ∷ others) (suc n) value within text longest constant =
     record {
       within = within;
       nonempty = omega arith;
-      is = inl (text, longest, (value, constant, refl));
+      is = (refl, inl (text, longest, (value, constant, refl)));
       longest = digit_longest fresh b others (suc n) digit longest;
       free = digit_free b others (suc n) value digit text longest constant;
     }

@@ -22,7 +22,7 @@ class_of_piece Comment = 1
 class_of_piece Skipped = 2
 class_of_piece (Spelled (kinds.Word word)) = 3
 class_of_piece (Spelled (kinds.Ident name)) = 3
-class_of_piece (Spelled (kinds.Number z)) = 4
+class_of_piece (Spelled (kinds.Number z u)) = 4
 class_of_piece (Spelled (kinds.Text bytes)) = 5
 class_of_piece (Spelled (kinds.Mark mark)) = 6
 
@@ -60,10 +60,10 @@ piece_class fresh rest n Skipped (is_fresh, marker, size) = ap class_of (take_pa
 piece_class fresh rest n (Spelled (kinds.Word word)) e = ap class_of e ∙ class_keyword word
 piece_class fresh rest n (Spelled (kinds.Ident name)) (e, word, none) =
     ap class_of (e ∙ word.2) ∙ class_letter word.0 word.1 word.3
-piece_class fresh rest n (Spelled (kinds.Number z)) (inl (text, most, number)) =
+piece_class fresh rest n (Spelled (kinds.Number z u)) (s, inl (text, most, number)) =
     let first = constant_digit (take n rest) number.0 number.1.0 in
     ap class_of first.2 ∙ class_digit first.0 first.1 first.3
-piece_class fresh rest n (Spelled (kinds.Number z)) (inr character) = ap class_of character.1.1
+piece_class fresh rest n (Spelled (kinds.Number z u)) (s, inr character) = ap class_of character.1.1
 piece_class fresh rest n (Spelled (kinds.Text bytes)) (inside, e, values) = ap class_of e
 piece_class fresh rest n (Spelled (kinds.Mark mark)) spelled = class_mark mark (take n rest) spelled
 
@@ -79,13 +79,13 @@ no_character bytes value z p q =
     cc
 
 -- numbers of the same bytes are one
-one_number : (fresh : Bool) (rest : List ℕ) (n : ℕ) (y z : ℤ) → IsPiece fresh rest n (Spelled (kinds.Number y))
-    → IsPiece fresh rest n (Spelled (kinds.Number z)) → y ≡ z
-one_number fresh rest n y z (inl (t, m, a)) (inl (u, o, b)) =
+one_number : (fresh : Bool) (rest : List ℕ) (n : ℕ) (y z : ℤ) (v w : Bool)
+    → IsPiece fresh rest n (Spelled (kinds.Number y v)) → IsPiece fresh rest n (Spelled (kinds.Number z w)) → y ≡ z
+one_number fresh rest n y z v w (r, inl (t, m, a)) (s, inl (u, o, b)) =
     a.2 ∙ ap pos (one_constant (take n rest) a.0 b.0 a.1.0 b.1.0) ∙ sym b.2
-one_number fresh rest n y z (inl (t, m, a)) (inr b) = absurd (no_character (take n rest) a.0 z a.1.0 b)
-one_number fresh rest n y z (inr a) (inl (u, o, b)) = absurd (no_character (take n rest) b.0 y b.1.0 a)
-one_number fresh rest n y z (inr a) (inr b) = one_character (take n rest) y z a b
+one_number fresh rest n y z v w (r, inl (t, m, a)) (s, inr b) = absurd (no_character (take n rest) a.0 z a.1.0 b)
+one_number fresh rest n y z v w (r, inr a) (s, inl (u, o, b)) = absurd (no_character (take n rest) b.0 y b.1.0 a)
+one_number fresh rest n y z v w (r, inr a) (s, inr b) = one_character (take n rest) y z a b
 
 -- tokens of one class and the same bytes are of one kind
 same_kind : (fresh : Bool) (rest : List ℕ) (n : ℕ) (k l : TokenKind) → class_of_piece (Spelled k)
@@ -94,8 +94,9 @@ same_kind fresh rest n (kinds.Word v) (kinds.Word w) e a b = ap (λ x. kinds.Wor
 same_kind fresh rest n (kinds.Word v) (kinds.Ident y) e a b = absurd (b.2 v (sym a ∙ b.0))
 same_kind fresh rest n (kinds.Ident x) (kinds.Word w) e a b = absurd (a.2 w (sym b ∙ a.0))
 same_kind fresh rest n (kinds.Ident x) (kinds.Ident y) e a b = ap (λ x. kinds.Ident x) (sym a.0 ∙ b.0)
-same_kind fresh rest n (kinds.Number y) (kinds.Number z) e a b =
-    ap (λ x. kinds.Number x) (one_number fresh rest n y z a b)
+same_kind fresh rest n (kinds.Number y v) (kinds.Number z w) e a b =
+    ap (λ x. kinds.Number x v) (one_number fresh rest n y z v w a b)
+    ∙ ap (λ u. kinds.Number z u) (a.0 ∙ sym b.0)
 same_kind fresh rest n (kinds.Text x) (kinds.Text y) e a b =
     ap (λ x. kinds.Text x) (one_literal double_quote (take n rest) x y a b)
 same_kind fresh rest n (kinds.Mark l) (kinds.Mark m) e a b = ap (λ x. kinds.Mark x) (one_mark l m (take n rest) a b)

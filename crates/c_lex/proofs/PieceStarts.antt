@@ -67,7 +67,7 @@ starts Comment b = b == slash
 starts Skipped b = b == hash
 starts (Spelled (kinds.Word word)) b = is_letter b
 starts (Spelled (kinds.Ident name)) b = is_letter b
-starts (Spelled (kinds.Number z)) b = is_digit b || (b == dot || b == apostrophe)
+starts (Spelled (kinds.Number z u)) b = is_digit b || (b == dot || b == apostrophe)
 starts (Spelled (kinds.Text bytes)) b = b == double_quote
 starts (Spelled (kinds.Mark mark)) b = is_mark_byte b
 
@@ -105,9 +105,9 @@ piece_starts fresh b others m (Spelled (kinds.Word word)) e =
 piece_starts fresh b others m (Spelled (kinds.Ident name)) (e, (c, cs, is, letter, all), none) =
     same_first is_letter b (take m others) name e
     (subst (λ (xs : List ℕ). IsTrue (begins_with is_letter xs)) (sym is) letter)
-piece_starts fresh b others m (Spelled (kinds.Number z)) (inl (text, longest, more)) =
+piece_starts fresh b others m (Spelled (kinds.Number z u)) (s, inl (text, longest, more)) =
     number_first b (take m others) text
-piece_starts fresh b others m (Spelled (kinds.Number z)) (inr (value, (inside, e, has), is)) =
+piece_starts fresh b others m (Spelled (kinds.Number z u)) (s, inr (value, (inside, e, has), is)) =
     same_first (λ x. is_digit x || (x == dot || x == apostrophe)) b (take m others)
     (apostrophe ∷ inside ++ apostrophe ∷ []) e refl
 piece_starts fresh b others m (Spelled (kinds.Text bytes)) (inside, e, has) =

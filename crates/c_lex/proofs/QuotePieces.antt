@@ -125,9 +125,9 @@ only_literal fresh b bs (suc n) (Spelled (kinds.Word word)) q some h =
 only_literal fresh b bs (suc n) (Spelled (kinds.Ident name)) q some h =
     let word = h.1 in
     absurd (fails is_letter b word.0 q refl refl (head_is b word.0 (take n bs) word.1 (h.0 ∙ word.2)) word.3)
-only_literal fresh b bs (suc n) (Spelled (kinds.Number z)) q some (inl h) =
+only_literal fresh b bs (suc n) (Spelled (kinds.Number z u)) q some (s, inl h) =
     absurd (no_number_text b (take n bs) q h.0)
-only_literal fresh b bs (suc n) (Spelled (kinds.Number z)) q some (inr h) =
+only_literal fresh b bs (suc n) (Spelled (kinds.Number z u)) q some (s, inr h) =
     let same : b ≡ apostrophe = head_is b apostrophe (take n bs) (h.1.0 ++ apostrophe ∷ []) h.1.1 in
     record {
       values = h.0 ∷ [];
@@ -265,11 +265,11 @@ text_begins fresh b text values n e h =
 -- the character constant that was read
 pub constant_begins : (fresh : Bool) (b : ℕ) (text values : List ℕ) (n value : ℕ) → b ≡ apostrophe
     → IsClosedBehind b text values n → values ≡ value ∷ []
-    → Begins fresh (b ∷ text) (n + 2) (Spelled (kinds.Number (twos_complement 1 value)))
+    → Begins fresh (b ∷ text) (n + 2) (Spelled (kinds.Number (twos_complement 1 value) false))
 constant_begins fresh b text values n value e h one =
     let is : IsLiteral b (take (n + 2) (b ∷ text)) values = (closed_literal b text values n h).1 in
     let quoted : IsLiteral apostrophe (take (n + 2) (b ∷ text)) (value ∷ []) =
     subst (λ (x : ℕ). IsLiteral x (take (n + 2) (b ∷ text)) (value ∷ [])) e
     (subst (λ (vs : List ℕ). IsLiteral b (take (n + 2) (b ∷ text)) vs) one is) in
-    literal_begins fresh b text values n (Spelled (kinds.Number (twos_complement 1 value))) (inl e) h
-    (inr (value, quoted, refl))
+    literal_begins fresh b text values n (Spelled (kinds.Number (twos_complement 1 value) false)) (inl e) h
+    (refl, inr (value, quoted, refl))

@@ -32,7 +32,7 @@ only_space b Comment h s = absurd (grind (arith, nat_tests))
 only_space b Skipped h s = absurd (grind (arith, nat_tests))
 only_space b (Spelled (kinds.Word word)) h s = absurd (grind (arith, nat_tests))
 only_space b (Spelled (kinds.Ident name)) h s = absurd (grind (arith, nat_tests))
-only_space b (Spelled (kinds.Number z)) h s = absurd (grind (arith, nat_tests))
+only_space b (Spelled (kinds.Number z u)) h s = absurd (grind (arith, nat_tests))
 only_space b (Spelled (kinds.Text bytes)) h s = absurd (grind (arith, nat_tests))
 only_space b (Spelled (kinds.Mark mark)) h s = absurd (grind (arith, nat_tests))
 
@@ -98,8 +98,8 @@ slash_piece fresh c others m (Spelled (kinds.Word word)) is =
     absurd (false≢true (piece_starts fresh slash (c ∷ others) (suc m) (Spelled (kinds.Word word)) is))
 slash_piece fresh c others m (Spelled (kinds.Ident name)) is =
     absurd (false≢true (piece_starts fresh slash (c ∷ others) (suc m) (Spelled (kinds.Ident name)) is))
-slash_piece fresh c others m (Spelled (kinds.Number z)) is =
-    absurd (false≢true (piece_starts fresh slash (c ∷ others) (suc m) (Spelled (kinds.Number z)) is))
+slash_piece fresh c others m (Spelled (kinds.Number z u)) is =
+    absurd (false≢true (piece_starts fresh slash (c ∷ others) (suc m) (Spelled (kinds.Number z u)) is))
 slash_piece fresh c others m (Spelled (kinds.Text bytes)) is =
     absurd (false≢true (piece_starts fresh slash (c ∷ others) (suc m) (Spelled (kinds.Text bytes)) is))
 slash_piece fresh c others m (Spelled (kinds.Mark mark)) is =
@@ -332,8 +332,8 @@ hash_piece fresh others m (Spelled (kinds.Word word)) is =
     absurd (false≢true (piece_starts fresh hash others m (Spelled (kinds.Word word)) is))
 hash_piece fresh others m (Spelled (kinds.Ident name)) is =
     absurd (false≢true (piece_starts fresh hash others m (Spelled (kinds.Ident name)) is))
-hash_piece fresh others m (Spelled (kinds.Number z)) is =
-    absurd (false≢true (piece_starts fresh hash others m (Spelled (kinds.Number z)) is))
+hash_piece fresh others m (Spelled (kinds.Number z u)) is =
+    absurd (false≢true (piece_starts fresh hash others m (Spelled (kinds.Number z u)) is))
 hash_piece fresh others m (Spelled (kinds.Text bytes)) is =
     absurd (false≢true (piece_starts fresh hash others m (Spelled (kinds.Text bytes)) is))
 hash_piece fresh others m (Spelled (kinds.Mark mark)) is =

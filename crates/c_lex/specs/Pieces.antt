@@ -1,6 +1,6 @@
 -- The pieces that a text is made of: white space, comments, skipped lines and tokens (C99 6.4, 6.4.9).
 -- Each is the longest that begins there.
-use Rattle.std.specs.Prelude.{◌≡◌, ◌≢◌, ◌≤◌, ◌<◌, ◌⊎◌, ℕ, Bool, true, List, [], ◌∷◌, ◌++◌, length, take, take_while}
+use Rattle.std.specs.Prelude.{◌≡◌, ◌≢◌, ◌≤◌, ◌<◌, ◌⊎◌, ℕ, Bool, true, false, List, [], ◌∷◌, ◌++◌, length, take, take_while}
 use Rattle.std.specs.Prelude.{not, ◌==◌, IsTrue, pos, codes, if◌then◌else◌}
 use Rattle.pcc_base.specs.Ascii.{newline, double_quote, hash, apostrophe, star, slash}
 use Rattle.pcc_base.specs.declared.keyword.Keyword.{Keyword}
@@ -53,17 +53,18 @@ abbrev pub IsNoKeyword : List ℕ → Type 0
 IsNoKeyword bytes = (word : Keyword) → keyword_text word ≢ bytes
 
 -- The first n bytes of the rest are such a piece. A line may be skipped where it starts between pieces
--- and had nothing but spaces and tabs so far (`fresh`). A number is the longest preprocessing number.
+-- and had nothing but spaces and tabs so far (`fresh`). A number is the longest preprocessing number; none is unsigned.
 abbrev pub IsPiece : Bool → List ℕ → ℕ → Piece → Type 0
 IsPiece fresh rest n Space = (b : ℕ) × (take n rest ≡ b ∷ []) × IsTrue (is_space b)
 IsPiece fresh rest n Comment = IsLineComment (take n rest) ⊎ IsBlockComment (take n rest)
 IsPiece fresh rest n Skipped = (fresh ≡ true) × IsMarker (line_of rest) × (n ≡ length (line_of rest))
 IsPiece fresh rest n (Spelled (kinds.Word word)) = take n rest ≡ keyword_text word
 IsPiece fresh rest n (Spelled (kinds.Ident name)) = (take n rest ≡ name) × IsWordText name × IsNoKeyword name
-IsPiece fresh rest n (Spelled (kinds.Number z)) =
-    (IsNumberText (take n rest) × ((m : ℕ) → n < m → m ≤ length rest → IsNumberText (take m rest) → ⊥)
+IsPiece fresh rest n (Spelled (kinds.Number z unsigned)) =
+    (unsigned ≡ false)
+    × ((IsNumberText (take n rest) × ((m : ℕ) → n < m → m ≤ length rest → IsNumberText (take m rest) → ⊥)
     × ((value : ℕ) × IsConstant (take n rest) value × (z ≡ pos value)))
-    ⊎ IsCharacterConstant (take n rest) z
+    ⊎ IsCharacterConstant (take n rest) z)
 IsPiece fresh rest n (Spelled (kinds.Text bytes)) = IsLiteral double_quote (take n rest) bytes
 IsPiece fresh rest n (Spelled (kinds.Mark mark)) = IsMark mark (take n rest)
 

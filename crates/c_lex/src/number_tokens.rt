@@ -32,5 +32,11 @@ pub fn number_at(rest: &[u8]) -> Option<(usize, Scanned)>
 {
     let end = number_length(rest);
     let value = constant_value(&rest[..end])?;
-    Some((end, Scanned::Token(TokenKind::Number(value))))
+    Some((
+        end,
+        Scanned::Token(TokenKind::Number {
+            value,
+            unsigned: false,
+        }),
+    ))
 }

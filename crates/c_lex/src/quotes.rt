@@ -195,6 +195,9 @@ pub fn quote_at(alloc: Global, rest: &[u8]) -> Result<Option<(usize, Scanned)>, 
     }
     Ok(Some((
         length + 2,
-        Scanned::Token(TokenKind::Number(signed(values[0]))),
+        Scanned::Token(TokenKind::Number {
+            value: signed(values[0]),
+            unsigned: false,
+        }),
     )))
 }

@@ -56,7 +56,8 @@ pub enum Punct {
 pub enum TokenKind {
     Word(Keyword),
     Ident(Name),
-    Number(i32),
+    /// The value of a constant, and whether its type is unsigned: that of no constant of the language is (C99 6.4.4.1).
+    Number { value: i32, unsigned: bool },
     /// The bytes of a string literal, without the zero byte at its end (C99 6.4.5).
     Text(Name),
     Mark(Punct),

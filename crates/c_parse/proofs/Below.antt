@@ -8,15 +8,15 @@ use Rattle.c_lex.specs.declared.token.Punct.TheVariants as marks
 use Rattle.c_syntax.specs.declared.expression.Specifier.{Specifier}
 use Rattle.c_syntax.specs.Declarations.{DeclarationTree}
 use Rattle.c_syntax.specs.Statements.{LabelTree, Declared, Labelled}
-use Rattle.c_syntax.specs.Chains.{Reads, then_read}
-use Rattle.c_syntax.specs.Taking.{take_mark, take_specifiers}
-use Rattle.c_syntax.specs.Reading.{readers}
-use Rattle.c_syntax.proofs.Reading.{readers-none}
-use Rattle.c_syntax.specs.DeclarationReading.{read_declaration, maybe_before}
-use Rattle.c_syntax.specs.StatementReading.{Below, below_of, read_statement, read_block_item, read_labels}
-use Rattle.c_syntax.specs.StatementReading.{read_labelled, read_condition, read_for_rest, for_with, if_behind}
-use Rattle.c_syntax.specs.StatementReading.{while_behind, do_behind, for_behind, switch_behind}
-use Rattle.c_syntax.proofs.StatementReading.{below_of-none, below_of-suc, below_above}
+use Rattle.c_grammar.specs.Chains.{Reads, then_read}
+use Rattle.c_grammar.specs.Taking.{take_mark, take_specifiers}
+use Rattle.c_grammar.specs.Reading.{readers}
+use Rattle.c_grammar.proofs.Reading.{readers-none}
+use Rattle.c_grammar.specs.DeclarationReading.{read_declaration, maybe_before}
+use Rattle.c_grammar.specs.StatementReading.{Below, below_of, read_statement, read_block_item, read_labels}
+use Rattle.c_grammar.specs.StatementReading.{read_labelled, read_condition, read_for_rest, for_with, if_behind}
+use Rattle.c_grammar.specs.StatementReading.{while_behind, do_behind, for_behind, switch_behind}
+use Rattle.c_grammar.proofs.StatementReading.{below_of-none, below_of-suc, below_above}
 use Rattle.c_parse_expressions.specs.Readings.{IsRead, Refused}
 use Rattle.c_parse_expressions.specs.Fronts.{BeginsWithSpecifier}
 use Rattle.c_parse.specs.StatementParts.{fields_of, below_node}

@@ -7,9 +7,9 @@ use Rattle.pcc_base.specs.declared.refusal.Refusal.TheVariants.{Fault, Limit, No
 use Rattle.c_lex.specs.declared.token.Token.{Token}
 use Rattle.c_syntax.specs.declared.unit.External.{External}
 use Rattle.c_syntax.specs.Statements.{ExternalTree, external_of}
-use Rattle.c_syntax.specs.Chains.{Done, Fails, Goes, Reads}
-use Rattle.c_syntax.proofs.Chains.{Continues, continues_goes, continues_done, continues_fails}
-use Rattle.c_syntax.specs.StatementReading.{Below, read_external, unit_step}
+use Rattle.c_grammar.specs.Chains.{Done, Fails, Goes, Reads}
+use Rattle.c_grammar.proofs.Chains.{Continues, continues_goes, continues_done, continues_fails}
+use Rattle.c_grammar.specs.StatementReading.{Below, read_external, unit_step}
 use Rattle.c_parse_expressions.specs.Readings.{Refused}
 use Rattle.c_parse.proofs.Listing.{map_push}
 

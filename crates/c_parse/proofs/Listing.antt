@@ -9,13 +9,13 @@ use Rattle.c_lex.specs.declared.token.Punct.{Punct}
 use Rattle.c_lex.specs.declared.token.Punct.TheVariants as marks
 use Rattle.c_syntax.specs.Expressions.{Expr}
 use Rattle.c_syntax.specs.Declarations.{ParameterTree}
-use Rattle.c_syntax.specs.Chains.{Step, Done, Fails, Goes, Reads}
-use Rattle.c_syntax.proofs.Chains.{Continues, continues_start}
-use Rattle.c_syntax.proofs.Chains.{continues_goes, continues_done, continues_fails}
-use Rattle.c_syntax.specs.Taking.{take_mark}
-use Rattle.c_syntax.specs.Reading.{Reader, Readers, readers}
-use Rattle.c_syntax.specs.DeclarationReading.{Listed, list_step, read_more, maybe_from, maybe_before, read_parameter}
-use Rattle.c_syntax.specs.DeclarationReading.{read_parameters, parameters_from}
+use Rattle.c_grammar.specs.Chains.{Step, Done, Fails, Goes, Reads}
+use Rattle.c_grammar.proofs.Chains.{Continues, continues_start}
+use Rattle.c_grammar.proofs.Chains.{continues_goes, continues_done, continues_fails}
+use Rattle.c_grammar.specs.Taking.{take_mark}
+use Rattle.c_grammar.specs.Reading.{Reader, Readers, readers}
+use Rattle.c_grammar.specs.DeclarationReading.{Listed, list_step, read_more, maybe_from, maybe_before, read_parameter}
+use Rattle.c_grammar.specs.DeclarationReading.{read_parameters, parameters_from}
 use Rattle.c_parse_expressions.specs.Readings.{Refused}
 use Rattle.c_parse_expressions.proofs.Refused.{refused_then}
 use Rattle.c_parse_expressions.specs.declared.expression.Rule.{Rule}

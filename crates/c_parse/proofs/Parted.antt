@@ -5,9 +5,9 @@ use Rattle.c_lex.specs.declared.token.Token.{Token}
 use Rattle.c_lex.specs.declared.token.Punct.TheVariants as marks
 use Rattle.c_syntax.specs.declared.expression.Specifier.{Specifier}
 use Rattle.c_syntax.specs.Statements.{Block, Simple, Do, Switch, Return, stmts_of}
-use Rattle.c_syntax.specs.Chains.{Reads, then_read}
-use Rattle.c_syntax.specs.StatementReading.{Below, read_simple, return_behind, block_behind, do_behind, for_with}
-use Rattle.c_syntax.specs.StatementReading.{for_behind, switch_behind}
+use Rattle.c_grammar.specs.Chains.{Reads, then_read}
+use Rattle.c_grammar.specs.StatementReading.{Below, read_simple, return_behind, block_behind, do_behind, for_with}
+use Rattle.c_grammar.specs.StatementReading.{for_behind, switch_behind}
 use Rattle.c_parse.specs.StatementParts.{read_clause, read_do_tail, read_for_tests, start_with, read_for_head, for_of}
 use Rattle.c_parse.specs.StatementParts.{read_switch_head, read_closed}
 

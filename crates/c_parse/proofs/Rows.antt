@@ -9,11 +9,11 @@ use Rattle.c_lex.specs.declared.token.Punct.TheVariants as marks
 use Rattle.c_syntax.specs.declared.statement.Label.{Label}
 use Rattle.c_syntax.specs.declared.statement.Statement.{Statement}
 use Rattle.c_syntax.specs.Statements.{LabelTree, label_of, Stmt, stmt_of}
-use Rattle.c_syntax.specs.Chains.{Done, Fails, Goes, Reads, then_read}
-use Rattle.c_syntax.proofs.Chains.{Continues, continues_goes, continues_done, continues_fails}
-use Rattle.c_syntax.specs.Taking.{take_mark}
-use Rattle.c_syntax.specs.Reading.{Reader}
-use Rattle.c_syntax.specs.StatementReading.{StmtReader, until_at, until_step, label_step}
+use Rattle.c_grammar.specs.Chains.{Done, Fails, Goes, Reads, then_read}
+use Rattle.c_grammar.proofs.Chains.{Continues, continues_goes, continues_done, continues_fails}
+use Rattle.c_grammar.specs.Taking.{take_mark}
+use Rattle.c_grammar.specs.Reading.{Reader}
+use Rattle.c_grammar.specs.StatementReading.{StmtReader, until_at, until_step, label_step}
 use Rattle.c_parse_expressions.specs.Readings.{Refused}
 use Rattle.c_parse.proofs.Listing.{map_push}
 use Rattle.c_parse.specs.StatementParts.{ClosedTree, IsLabelTurn}

@@ -3,9 +3,9 @@ use Rattle.std.proofs.Common.{◌≡◌, ℕ, ◌+◌, ◌≤◌, List, [], Some
 use Rattle.c_lex.specs.declared.token.Token.{Token}
 use Rattle.c_syntax.specs.Statements.{ExternalTree}
 use Rattle.c_syntax.specs.Grammar.{Tree}
-use Rattle.c_syntax.specs.StatementReading.{Below, below_of, read_unit}
-use Rattle.c_syntax.proofs.SoundStatements.{unit_sound}
-use Rattle.c_syntax.proofs.StatementComplete.{tree_read}
+use Rattle.c_grammar.specs.StatementReading.{Below, below_of, read_unit}
+use Rattle.c_grammar.proofs.SoundStatements.{unit_sound}
+use Rattle.c_grammar.proofs.StatementComplete.{tree_read}
 use Rattle.c_parse.specs.StatementParts.{fields_of, below_node}
 use Rattle.c_parse.proofs.Below.{fields_are}
 use Rattle.c_parse.specs.ParserRefusals.{NoTree}

@@ -5,8 +5,8 @@ use Rattle.pcc_base.specs.declared.refusal.Refusal.TheVariants.{Fault, Limit, No
 use Rattle.c_lex.specs.declared.token.Token.{Token}
 use Rattle.c_syntax.specs.declared.expression.Specifier.{Specifier}
 use Rattle.c_syntax.specs.Declarations.{ParameterTree, parameter_of, ItemTree, item_of}
-use Rattle.c_syntax.specs.Taking.{take_specifiers}
-use Rattle.c_syntax.specs.DeclarationReading.{Listed}
+use Rattle.c_grammar.specs.Taking.{take_specifiers}
+use Rattle.c_grammar.specs.DeclarationReading.{Listed}
 use Rattle.c_parse.specs.declared.lists.ParameterList.{ParameterList}
 use Rattle.c_parse.specs.declared.lists.ItemList.{ItemList}
 

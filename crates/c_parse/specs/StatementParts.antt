@@ -13,12 +13,12 @@ use Rattle.c_syntax.specs.declared.statement.Statement.{Statement}
 use Rattle.c_syntax.specs.Expressions.{Expr, expr_of}
 use Rattle.c_syntax.specs.Declarations.{DeclarationTree, declaration_of, maybe_expr_of}
 use Rattle.c_syntax.specs.Statements.{LabelTree, label_of, Stmt, For, ForDeclaration, stmt_of}
-use Rattle.c_syntax.specs.Chains.{Done, Goes, Reads, then_read}
-use Rattle.c_syntax.specs.Taking.{take_mark, take_word, take_specifiers}
-use Rattle.c_syntax.specs.Reading.{Reader, readers}
-use Rattle.c_syntax.specs.DeclarationReading.{maybe_before}
-use Rattle.c_syntax.specs.StatementReading as reading
-use Rattle.c_syntax.specs.StatementReading.{StmtReader, Below, below_of, label_step, read_condition, read_until}
+use Rattle.c_grammar.specs.Chains.{Done, Goes, Reads, then_read}
+use Rattle.c_grammar.specs.Taking.{take_mark, take_word, take_specifiers}
+use Rattle.c_grammar.specs.Reading.{Reader, readers}
+use Rattle.c_grammar.specs.DeclarationReading.{maybe_before}
+use Rattle.c_grammar.specs.StatementReading as reading
+use Rattle.c_grammar.specs.StatementReading.{StmtReader, Below, below_of, label_step, read_condition, read_until}
 use Rattle.c_parse_expressions.specs.Readings.{RefusedStep}
 use Rattle.c_parse.specs.declared.statement_parts.Condition.{Condition}
 use Rattle.c_parse.specs.declared.statement_parts.Clause.{Clause}

@@ -1,8 +1,8 @@
 //! Items and declarations.
 
 ghost use Rattle.c_syntax.specs.Declarations.{declarator_of, item_of, declaration_of};
-ghost use Rattle.c_syntax.specs.DeclarationReading.{item_behind, read_item, read_more, declaration_behind};
-ghost use Rattle.c_syntax.specs.DeclarationReading.{read_declaration};
+ghost use Rattle.c_grammar.specs.DeclarationReading.{item_behind, read_item, read_more, declaration_behind};
+ghost use Rattle.c_grammar.specs.DeclarationReading.{read_declaration};
 ghost use Rattle.c_parse_expressions.specs.ExpressionReadings.{below};
 ghost use Rattle.c_parse_expressions.specs.Readings.{IsRead, IsPartRead};
 ghost use Rattle.c_parse.specs.DeclarationParts.{items_listed};

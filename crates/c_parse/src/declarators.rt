@@ -1,8 +1,8 @@
 //! Declarators and parameters.
 
 ghost use Rattle.c_syntax.specs.Declarations.{parameter_of, parameters_of, part_of, declarator_of};
-ghost use Rattle.c_syntax.specs.DeclarationReading.{read_parameter, read_parameters, parameters_behind, read_part};
-ghost use Rattle.c_syntax.specs.DeclarationReading.{read_declarator};
+ghost use Rattle.c_grammar.specs.DeclarationReading.{read_parameter, read_parameters, parameters_behind, read_part};
+ghost use Rattle.c_grammar.specs.DeclarationReading.{read_declarator};
 ghost use Rattle.c_parse_expressions.specs.ExpressionReadings.{below};
 ghost use Rattle.c_parse_expressions.specs.Readings.{IsRead, IsPartRead};
 ghost use Rattle.c_parse.specs.DeclarationParts.{parameters_listed};

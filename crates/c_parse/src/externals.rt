@@ -1,10 +1,10 @@
 //! External declarations, and the unit of a file.
 
 ghost use Rattle.std.specs.Prelude.{◌≡◌, [], IfOk, Some};
-ghost use Rattle.c_syntax.specs.Chains.{then_read};
+ghost use Rattle.c_grammar.specs.Chains.{then_read};
 ghost use Rattle.c_syntax.specs.Declarations.{declarator_of, part_of};
 ghost use Rattle.c_syntax.specs.Statements.{external_of, unit_of, FunctionTree};
-ghost use Rattle.c_syntax.specs.StatementReading.{has_parameters, read_external, read_unit};
+ghost use Rattle.c_grammar.specs.StatementReading.{has_parameters, read_external, read_unit};
 ghost use Rattle.c_parse_expressions.specs.Readings.{IsRead, IsPartRead};
 ghost use Rattle.c_parse.specs.StatementParts.{below_node};
 

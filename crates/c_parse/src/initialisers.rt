@@ -1,11 +1,11 @@
 //! Initialisers.
 
 ghost use Rattle.std.specs.Prelude.{◌≡◌, ◌<◌, length, IfSome, IfNone, Some, None};
-ghost use Rattle.c_syntax.specs.Chains.{Done};
+ghost use Rattle.c_grammar.specs.Chains.{Done};
 ghost use Rattle.c_syntax.specs.Declarations.{initialiser_of, value_of};
-ghost use Rattle.c_syntax.specs.Reading.{Readers, Values as ReadValues};
-ghost use Rattle.c_syntax.specs.Taking.{take_mark};
-ghost use Rattle.c_syntax.specs.DeclarationReading.{brace_step, read_initialiser, value_from};
+ghost use Rattle.c_grammar.specs.Reading.{Readers, Values as ReadValues};
+ghost use Rattle.c_grammar.specs.Taking.{take_mark};
+ghost use Rattle.c_grammar.specs.DeclarationReading.{brace_step, read_initialiser, value_from};
 ghost use Rattle.c_parse_expressions.specs.Readings.{IsRead, IsPartRead};
 ghost use Rattle.c_parse_expressions.specs.ExpressionReadings.{IsValuesTurn, AreValues, below};
 ghost use Rattle.c_parse_expressions.specs.Values.{values_of, height_of_values};

@@ -1,8 +1,8 @@
 //! Statements without a statement in them.
 
 ghost use Rattle.c_syntax.specs.Statements.{stmt_of};
-ghost use Rattle.c_syntax.specs.Taking.{take_word};
-ghost use Rattle.c_syntax.specs.StatementReading.{or_break, break_behind, continue_behind, return_behind, read_simple};
+ghost use Rattle.c_grammar.specs.Taking.{take_word};
+ghost use Rattle.c_grammar.specs.StatementReading.{or_break, break_behind, continue_behind, return_behind, read_simple};
 ghost use Rattle.c_parse_expressions.specs.Readings.{IsRead};
 ghost use Rattle.c_parse.specs.StatementParts.{below_node, boxed_of};
 

@@ -65,7 +65,7 @@ fn outside_of(kind: &TokenKind) -> Option<Keyword>
             }
             None
         }
-        TokenKind::Ident(_) | TokenKind::Number(_) | TokenKind::Text(_) | TokenKind::Mark(_) =>
+        TokenKind::Ident(_) | TokenKind::Number { .. } | TokenKind::Text(_) | TokenKind::Mark(_) =>
             None,
     }
 }

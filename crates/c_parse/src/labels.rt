@@ -1,7 +1,7 @@
 //! The labels of a switch.
 
-ghost use Rattle.c_syntax.specs.Reading.{readers};
-ghost use Rattle.c_syntax.specs.StatementReading.{read_labels};
+ghost use Rattle.c_grammar.specs.Reading.{readers};
+ghost use Rattle.c_grammar.specs.StatementReading.{read_labels};
 ghost use Rattle.c_parse_expressions.specs.Readings.{IsPartRead};
 ghost use Rattle.c_parse.specs.StatementParts.{IsLabelTurn, labels_of};
 

@@ -2,7 +2,7 @@
 
 ghost use Rattle.std.specs.Prelude.{◌<◌, length, IfOk, IfErr};
 ghost use Rattle.c_syntax.specs.Declarations.{maybe_expr_of, array_of, maybe_array_of};
-ghost use Rattle.c_syntax.specs.DeclarationReading.{take_name, maybe_before, array_behind, read_maybe_array};
+ghost use Rattle.c_grammar.specs.DeclarationReading.{take_name, maybe_before, array_behind, read_maybe_array};
 ghost use Rattle.c_parse_expressions.specs.ExpressionReadings.{IsRule, below, reader_of};
 ghost use Rattle.c_parse_expressions.specs.Readings.{IsRead, IsPartRead};
 ghost use Rattle.c_parse_expressions.specs.Rows.{IsRow};
@@ -60,9 +60,8 @@ pub(crate) fn take_name(cursor: &mut Cursor<'_>) -> Result<Option<Identifier>, N
             let name = name.copy()?;
             Ok(Some(Identifier { name, at: first.at }))
         }
-        TokenKind::Word(_) | TokenKind::Number(_) | TokenKind::Text(_) | TokenKind::Mark(_) => Ok(
-            None,
-        ),
+        TokenKind::Word(_) | TokenKind::Number { .. } | TokenKind::Text(_) | TokenKind::Mark(_) =>
+            Ok(None),
     }
 }
 

@@ -7,7 +7,7 @@ ghost use Rattle.std.specs.Prelude.{◌≡◌};
 ghost use Rattle.pcc_base.specs.declared.fault.Fault.{Fault};
 ghost use Rattle.pcc_base.specs.declared.refusal.Refusal.TheVariants.{Fault as Faulty};
 ghost use Rattle.c_syntax.specs.Declarations.{declaration_of};
-ghost use Rattle.c_syntax.specs.StatementReading.{read_condition};
+ghost use Rattle.c_grammar.specs.StatementReading.{read_condition};
 ghost use Rattle.c_parse_expressions.specs.Readings.{IsRead};
 ghost use Rattle.c_parse.specs.StatementParts.{below_node, clause_of, condition_of, fields_of, for_head_of};
 ghost use Rattle.c_parse.specs.StatementParts.{read_clause, read_do_tail, read_for_head, read_for_start};
@@ -237,7 +237,9 @@ fn begins_item(kind: &TokenKind) -> bool {
         TokenKind::Mark(mark) => *mark == Punct::LeftBrace
             || *mark == Punct::Semicolon
             || begins_expression(kind),
-        TokenKind::Ident(_) | TokenKind::Number(_) | TokenKind::Text(_) => true,
+        TokenKind::Ident(_) | TokenKind::Number { .. } | TokenKind::Text(_) => begins_expression(
+            kind,
+        ),
     }
 }
 

@@ -1,12 +1,12 @@
 //! Statements with statements in them. What stands before and behind those is read by `parts`.
 
 ghost use Rattle.std.specs.Prelude.{Some};
-ghost use Rattle.c_syntax.specs.Chains.{then_read};
-ghost use Rattle.c_syntax.specs.DeclarationReading.{read_declaration};
+ghost use Rattle.c_grammar.specs.Chains.{then_read};
+ghost use Rattle.c_grammar.specs.DeclarationReading.{read_declaration};
 ghost use Rattle.c_syntax.specs.Statements.{stmt_of, Declared};
-ghost use Rattle.c_syntax.specs.StatementReading.{read_statement, block_behind, else_from, if_behind, while_behind};
-ghost use Rattle.c_syntax.specs.StatementReading.{do_behind, for_behind, switch_behind};
-ghost use Rattle.c_syntax.specs.Taking.{take_word};
+ghost use Rattle.c_grammar.specs.StatementReading.{read_statement, block_behind, else_from, if_behind, while_behind};
+ghost use Rattle.c_grammar.specs.StatementReading.{do_behind, for_behind, switch_behind};
+ghost use Rattle.c_grammar.specs.Taking.{take_word};
 ghost use Rattle.c_parse_expressions.specs.Readings.{IsRead, IsPartRead};
 ghost use Rattle.c_parse_expressions.specs.ExpressionReadings.{below};
 ghost use Rattle.c_parse.specs.StatementParts.{below_node, boxed_of, closed_of, condition_of, fields_of, read_closed};

@@ -2,7 +2,7 @@
 use Rattle.std.proofs.Common.{◌≡◌, List, ◌∷◌, Some, refl}
 use Rattle.c_lex.specs.declared.token.Token.{Token}
 use Rattle.c_syntax.specs.declared.operator.SpecifierWord.{SpecifierWord}
-use Rattle.c_syntax.specs.Taking.{specifier_of, take_specifiers}
+use Rattle.c_grammar.specs.Taking.{specifier_of, take_specifiers}
 use Rattle.c_parse_expressions.specs.Fronts.{BeginsWithSpecifier}
 
 -- a specifier at the front

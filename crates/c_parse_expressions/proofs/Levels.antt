@@ -3,11 +3,11 @@ use Rattle.std.proofs.Common.{◌≡◌, ◌<◌, ◌≤◌, ◌+◌, ◌-◌, �
 use Rattle.pcc_base.specs.declared.refusal.Refusal.{Refusal}
 use Rattle.c_lex.specs.declared.token.Token.{Token}
 use Rattle.c_syntax.specs.Expressions.{Expr}
-use Rattle.c_syntax.specs.Chains.{Done, Reads, chained, then_read}
-use Rattle.c_syntax.specs.Taking.{take_binary}
-use Rattle.c_syntax.specs.Reading.{Readers, read_binary, infix_step, infix_from}
-use Rattle.c_syntax.proofs.Chains.{continues_from, continues_done}
-use Rattle.c_syntax.proofs.Reading.{read_binary_above}
+use Rattle.c_grammar.specs.Chains.{Done, Reads, chained, then_read}
+use Rattle.c_grammar.specs.Taking.{take_binary}
+use Rattle.c_grammar.specs.Reading.{Readers, read_binary, infix_step, infix_from}
+use Rattle.c_grammar.proofs.Chains.{continues_from, continues_done}
+use Rattle.c_grammar.proofs.Reading.{read_binary_above}
 use Rattle.c_parse_expressions.specs.Readings.{Refused}
 use Rattle.c_parse_expressions.proofs.Refused.{refused_then}
 

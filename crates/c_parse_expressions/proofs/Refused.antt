@@ -4,8 +4,8 @@ use Rattle.pcc_base.specs.declared.fault.Fault.{Fault as Faults}
 use Rattle.pcc_base.specs.declared.refusal.Refusal.{Refusal}
 use Rattle.pcc_base.specs.declared.refusal.Refusal.TheVariants.{Fault, Limit, NoMemory}
 use Rattle.c_lex.specs.declared.token.Token.{Token}
-use Rattle.c_syntax.specs.Chains.{Step, Done, Reads, then_read}
-use Rattle.c_syntax.proofs.Chains.{Continues, continues_done, continues_fails}
+use Rattle.c_grammar.specs.Chains.{Step, Done, Reads, then_read}
+use Rattle.c_grammar.proofs.Chains.{Continues, continues_done, continues_fails}
 use Rattle.c_parse_expressions.specs.Readings.{Refused, RefusedStep}
 
 -- a loop whose step is refused

@@ -7,12 +7,12 @@ use Rattle.c_lex.specs.declared.token.Token.{Token}
 use Rattle.c_lex.specs.declared.token.Punct.TheVariants as marks
 use Rattle.c_syntax.specs.declared.expression.Specifier.{Specifier}
 use Rattle.c_syntax.specs.Expressions.{Star, Expr}
-use Rattle.c_syntax.specs.Chains.{Reads, chained}
-use Rattle.c_syntax.specs.Taking.{take_mark, take_pointer, take_specifiers}
-use Rattle.c_syntax.specs.Reading.{Readers, readers, read_cast, cast_behind}
-use Rattle.c_syntax.proofs.Reading.{readers-none, cast_reads}
-use Rattle.c_syntax.specs.Reading.{Values, read_arguments, arguments_from, value_step}
-use Rattle.c_syntax.proofs.Chains.{Continues, continues_start}
+use Rattle.c_grammar.specs.Chains.{Reads, chained}
+use Rattle.c_grammar.specs.Taking.{take_mark, take_pointer, take_specifiers}
+use Rattle.c_grammar.specs.Reading.{Readers, readers, read_cast, cast_behind}
+use Rattle.c_grammar.proofs.Reading.{readers-none, cast_reads}
+use Rattle.c_grammar.specs.Reading.{Values, read_arguments, arguments_from, value_step}
+use Rattle.c_grammar.proofs.Chains.{Continues, continues_start}
 use Rattle.c_parse_expressions.specs.Readings.{Refused}
 use Rattle.c_parse_expressions.specs.Fronts.{BeginsWithSpecifier}
 use Rattle.c_parse_expressions.specs.declared.found.Found.{Found}

@@ -4,9 +4,9 @@ use Rattle.pcc_base.specs.declared.refusal.Refusal.{Refusal}
 use Rattle.c_lex.specs.declared.token.Token.{Token}
 use Rattle.c_syntax.specs.Expressions.{Expr, exprs_of, expr_of}
 use Rattle.c_syntax.specs.ExpressionTokens.{expr_height, exprs_height}
-use Rattle.c_syntax.specs.Chains.{Step, Done, Goes, Reads}
-use Rattle.c_syntax.specs.Reading as reading
-use Rattle.c_syntax.specs.Reading.{Readers, readers}
+use Rattle.c_grammar.specs.Chains.{Step, Done, Goes, Reads}
+use Rattle.c_grammar.specs.Reading as reading
+use Rattle.c_grammar.specs.Reading.{Readers, readers}
 use Rattle.c_parse_expressions.specs.Readings.{Refused, RefusedStep}
 use Rattle.c_parse_expressions.specs.declared.found.Values.{Values}
 use Rattle.c_parse_expressions.specs.Values.{values_of, height_of_values}

@@ -2,7 +2,7 @@
 use Rattle.std.specs.Prelude.{◌≡◌, List, ◌∷◌}
 use Rattle.c_lex.specs.declared.token.Token.{Token}
 use Rattle.c_syntax.specs.declared.expression.Specifier.{Specifier}
-use Rattle.c_syntax.specs.Taking.{take_specifiers}
+use Rattle.c_grammar.specs.Taking.{take_specifiers}
 
 -- at least one specifier
 abbrev pub BeginsWithSpecifier : List Token → Type 0

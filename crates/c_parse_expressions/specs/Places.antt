@@ -4,7 +4,7 @@ use Rattle.pcc_base.specs.declared.span.Span.{Span}
 use Rattle.pcc_base.specs.declared.fault.FaultKind.{FaultKind}
 use Rattle.pcc_base.specs.declared.fault.FaultKind.TheVariants.{Syntax, TooDeep}
 use Rattle.c_lex.specs.declared.token.Token.{Token}
-use Rattle.c_syntax.specs.Heads.{begins}
+use Rattle.c_grammar.specs.Heads.{begins}
 
 -- the place of the next token, or the end where there is none
 abbrev pub next_place : List Token → Span → Span

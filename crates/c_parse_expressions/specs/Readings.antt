@@ -3,7 +3,7 @@ use Rattle.std.specs.Prelude.{◌≡◌, ◌<◌, ◌≤◌, List, length, Optio
 use Rattle.pcc_base.specs.declared.refusal.Refusal.{Refusal}
 use Rattle.pcc_base.specs.declared.refusal.Refusal.TheVariants.{Fault, Limit, NoMemory}
 use Rattle.c_lex.specs.declared.token.Token.{Token}
-use Rattle.c_syntax.specs.Chains.{Step, Fails, Reads}
+use Rattle.c_grammar.specs.Chains.{Step, Fails, Reads}
 
 -- a refusal: where it is a fault, nothing is read
 abbrev pub Refused : {A : Type 0} → Reads A → Refusal → Type 0

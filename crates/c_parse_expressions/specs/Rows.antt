@@ -1,7 +1,7 @@
 -- Rows of tokens of one kind, at the front of a list of tokens.
 use Rattle.std.specs.Prelude.{◌≡◌, ◌<◌, ◌≤◌, List, [], length, Option, Some, None}
 use Rattle.c_lex.specs.declared.token.Token.{Token}
-use Rattle.c_syntax.specs.Taking.{with_front}
+use Rattle.c_grammar.specs.Taking.{with_front}
 
 -- one more of a row is taken, or the row ends here
 abbrev pub IsFront : {A : Type 0} → (List Token → List A × List Token) → List Token → List Token → Option A → Type 0

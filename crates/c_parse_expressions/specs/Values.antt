@@ -2,7 +2,7 @@
 use Rattle.std.specs.Prelude.{ℕ, map}
 use Rattle.c_syntax.specs.Expressions.{exprs_of, expr_of}
 use Rattle.c_syntax.specs.ExpressionTokens.{exprs_height}
-use Rattle.c_syntax.specs.Reading as reading
+use Rattle.c_grammar.specs.Reading as reading
 use Rattle.c_parse_expressions.specs.declared.found.Values.{Values}
 
 -- several values and the commas between them

@@ -2,8 +2,8 @@
 
 ghost use Rattle.std.specs.Prelude.{◌≡◌, ◌<◌, length, IfSome, IfNone, Some, [], ℕ};
 ghost use Rattle.std.specs.Bool.{OnTrue, OnFalse};
-ghost use Rattle.c_syntax.specs.Taking.{take_mark, take_specifiers};
-ghost use Rattle.c_syntax.specs.Reading.{Readers, read_cast, read_unary};
+ghost use Rattle.c_grammar.specs.Taking.{take_mark, take_specifiers};
+ghost use Rattle.c_grammar.specs.Reading.{Readers, read_cast, read_unary};
 ghost use Rattle.c_parse_expressions.specs.Fronts.{BeginsWithSpecifier};
 
 use crate::kinds::{is_mark, specifier_of};

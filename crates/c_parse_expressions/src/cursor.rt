@@ -1,9 +1,9 @@
 ghost use Rattle.std.specs.Prelude.{◌≡◌, ◌<◌, length, IfSome, IfNone, Some, None, [], ℕ, is_some};
 ghost use Rattle.std.specs.Bool.{OnTrue, OnFalse};
 ghost use Rattle.pcc_base.specs.declared.refusal.Refusal.TheVariants.{Fault as Faulty};
-ghost use Rattle.c_syntax.specs.Taking.{take_mark, take_word, take_unary, take_step, take_assign, take_binary};
-ghost use Rattle.c_syntax.specs.Taking.{take_specifiers};
-ghost use Rattle.c_syntax.specs.Reading.{Readers, read_cast, read_unary};
+ghost use Rattle.c_grammar.specs.Taking.{take_mark, take_word, take_unary, take_step, take_assign, take_binary};
+ghost use Rattle.c_grammar.specs.Taking.{take_specifiers};
+ghost use Rattle.c_grammar.specs.Reading.{Readers, read_cast, read_unary};
 ghost use Rattle.c_parse_expressions.specs.Readings.{IsTaken};
 ghost use Rattle.c_parse_expressions.specs.Fronts.{BeginsWithSpecifier};
 ghost use Rattle.c_parse_expressions.specs.Places.{next_place, kind_without_height};

@@ -3,11 +3,11 @@
 ghost use Rattle.std.specs.Prelude.{◌≡◌, ◌<◌, ◌≤◌, ◌-◌, nat_le, Some};
 ghost use Rattle.c_syntax.specs.Expressions.{expr_of};
 ghost use Rattle.c_syntax.specs.ExpressionTokens.{expr_height, looseness};
-ghost use Rattle.c_syntax.specs.Reading.{read_expression, read_assignment, read_conditional, read_binary, read_cast};
-ghost use Rattle.c_syntax.specs.Reading.{read_unary, infix_step, infix_from, assignment_from, conditional_from};
-ghost use Rattle.c_syntax.specs.Reading.{cast_behind, prefix_from, unary_from, readers};
-ghost use Rattle.c_syntax.specs.Taking.{take_specifiers, take_pointer};
-ghost use Rattle.c_syntax.specs.Chains.{chained};
+ghost use Rattle.c_grammar.specs.Reading.{read_expression, read_assignment, read_conditional, read_binary, read_cast};
+ghost use Rattle.c_grammar.specs.Reading.{read_unary, infix_step, infix_from, assignment_from, conditional_from};
+ghost use Rattle.c_grammar.specs.Reading.{cast_behind, prefix_from, unary_from, readers};
+ghost use Rattle.c_grammar.specs.Taking.{take_specifiers, take_pointer};
+ghost use Rattle.c_grammar.specs.Chains.{chained};
 ghost use Rattle.c_parse_expressions.specs.ExpressionReadings.{IsReading, IsPartReading, IsTurn, IsRule, below, reader_of};
 
 use crate::build::binary_node;

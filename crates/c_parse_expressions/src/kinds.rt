@@ -1,7 +1,7 @@
 //! Which mark or specifier a token is.
 
 ghost use Rattle.std.specs.Prelude.{◌≡◌};
-ghost use Rattle.c_syntax.specs.Taking.{is_mark, specifier_of};
+ghost use Rattle.c_grammar.specs.Taking.{is_mark, specifier_of};
 
 use c_lex::{Punct, TokenKind};
 use c_syntax::SpecifierWord;
@@ -13,7 +13,7 @@ pub fn is_mark(kind: &TokenKind, mark: Punct) -> bool
 {
     match kind {
         TokenKind::Mark(found) => mark == *found,
-        TokenKind::Word(_) | TokenKind::Ident(_) | TokenKind::Number(_) | TokenKind::Text(_) =>
+        TokenKind::Word(_) | TokenKind::Ident(_) | TokenKind::Number { .. } | TokenKind::Text(_) =>
             false,
     }
 }

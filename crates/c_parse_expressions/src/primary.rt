@@ -1,12 +1,12 @@
 //! The rules `postfix` and `primary`.
 
 ghost use Rattle.std.specs.Prelude.{◌≡◌, ◌<◌, ◌≤◌, Some, length, suc, IfOk};
-ghost use Rattle.c_syntax.specs.Chains.{then_read};
+ghost use Rattle.c_grammar.specs.Chains.{then_read};
 ghost use Rattle.c_syntax.specs.Expressions.{expr_of, exprs_of, Call};
 ghost use Rattle.c_syntax.specs.ExpressionTokens.{expr_height};
-ghost use Rattle.c_syntax.specs.Reading.{read_postfix, read_primary, read_arguments, suffix_step, value_step};
-ghost use Rattle.c_syntax.specs.Reading.{call_from, index_from, parenthesised_from, text_from};
-ghost use Rattle.c_syntax.specs.Taking.{take_mark, take_texts};
+ghost use Rattle.c_grammar.specs.Reading.{read_postfix, read_primary, read_arguments, suffix_step, value_step};
+ghost use Rattle.c_grammar.specs.Reading.{call_from, index_from, parenthesised_from, text_from};
+ghost use Rattle.c_grammar.specs.Taking.{take_mark, take_texts};
 ghost use Rattle.c_parse_expressions.specs.ExpressionReadings.{IsReading, IsPartReading, IsTurn, AreValues, IsValuesTurn};
 ghost use Rattle.c_parse_expressions.specs.ExpressionReadings.{below};
 ghost use Rattle.c_parse_expressions.specs.Values.{values_of, height_of_values};
@@ -109,7 +109,10 @@ fn primary(cursor: &mut Cursor<'_>, height: Height) -> Result<Found, Refusal>
             cursor.rest = others;
             named(cursor, name, at, height)
         }
-        TokenKind::Number(value) => {
+        TokenKind::Number { value, unsigned } => {
+            if *unsigned {
+                return Err(cursor.refusal(FaultKind::Syntax));
+            }
             cursor.rest = others;
             Ok(number_node(cursor.alloc, *value, at)?)
         }

@@ -2,7 +2,7 @@
 
 ghost use Rattle.std.specs.Prelude.{◌≡◌, ◌+◌, ◌≤◌, ◌∷◌, ◌++◌, [], length, IfOk, OnOk};
 ghost use Rattle.c_syntax.specs.Expressions.{star_of};
-ghost use Rattle.c_syntax.specs.Taking.{take_specifiers, take_consts, take_texts, take_pointer, with_front};
+ghost use Rattle.c_grammar.specs.Taking.{take_specifiers, take_consts, take_texts, take_pointer, with_front};
 ghost use Rattle.c_parse_expressions.specs.Rows.{IsFront, IsRow};
 
 use crate::cursor::Cursor;
@@ -93,8 +93,10 @@ impl Cursor<'_> {
                     at: first.at,
                 }))
             }
-            TokenKind::Word(_) | TokenKind::Ident(_) | TokenKind::Number(_) | TokenKind::Mark(_) =>
-                Ok(None),
+            TokenKind::Word(_)
+            | TokenKind::Ident(_)
+            | TokenKind::Number { .. }
+            | TokenKind::Mark(_) => Ok(None),
         }
     }
 

@@ -2,9 +2,9 @@
 
 ghost use Rattle.std.specs.Prelude.{◌≡◌, ◌<◌, ℕ, None};
 ghost use Rattle.c_syntax.specs.ExpressionTokens.{binary_level};
-ghost use Rattle.c_syntax.specs.Taking.{is_word, of_mark, unary_of_mark, step_of_mark, assign_of_mark};
-ghost use Rattle.c_syntax.specs.Taking.{binary_of_mark, at_level};
-ghost use Rattle.c_syntax.specs.Heads.{begins};
+ghost use Rattle.c_grammar.specs.Taking.{is_word, of_mark, unary_of_mark, step_of_mark, assign_of_mark};
+ghost use Rattle.c_grammar.specs.Taking.{binary_of_mark, at_level};
+ghost use Rattle.c_grammar.specs.Heads.{begins};
 
 use c_lex::{Punct, TokenKind};
 use c_syntax::{AssignOp, BinaryOp, StepOp, UnaryOp};
@@ -19,7 +19,7 @@ pub fn is_word(kind: &TokenKind, word: Keyword) -> bool
 {
     match kind {
         TokenKind::Word(found) => word == *found,
-        TokenKind::Mark(_) | TokenKind::Ident(_) | TokenKind::Number(_) | TokenKind::Text(_) =>
+        TokenKind::Mark(_) | TokenKind::Ident(_) | TokenKind::Number { .. } | TokenKind::Text(_) =>
             false,
     }
 }
@@ -30,7 +30,7 @@ fn mark_of(kind: &TokenKind) -> Option<Punct>
 {
     match kind {
         TokenKind::Mark(mark) => Some(*mark),
-        TokenKind::Word(_) | TokenKind::Ident(_) | TokenKind::Number(_) | TokenKind::Text(_) =>
+        TokenKind::Word(_) | TokenKind::Ident(_) | TokenKind::Number { .. } | TokenKind::Text(_) =>
             None,
     }
 }
@@ -184,7 +184,8 @@ pub fn begins_expression(kind: &TokenKind) -> bool
     ensures { result ≡ begins kind.now }
 {
     match kind {
-        TokenKind::Ident(_) | TokenKind::Number(_) | TokenKind::Text(_) => true,
+        TokenKind::Ident(_) | TokenKind::Text(_) => true,
+        TokenKind::Number { unsigned, .. } => !*unsigned,
         TokenKind::Mark(mark) => *mark == Punct::LeftParen
             || unary_of_mark(*mark).is_some()
             || step_of_mark(*mark).is_some(),

@@ -6,9 +6,3 @@ pub mod DeclarationTokens
 pub mod Statements
 pub mod StatementTokens
 pub mod Grammar
-pub mod Chains
-pub mod Taking
-pub mod Heads
-pub mod Reading
-pub mod DeclarationReading
-pub mod StatementReading

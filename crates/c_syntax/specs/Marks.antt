@@ -1,5 +1,5 @@
 -- Which token each operator and specifier is (C99 6.4.1, 6.4.6).
-use Rattle.std.specs.Prelude.{ℕ, ℤ, List}
+use Rattle.std.specs.Prelude.{ℕ, ℤ, false, List}
 use Rattle.pcc_base.specs.declared.span.Span.{Span}
 use Rattle.pcc_base.specs.declared.keyword.Keyword.{Keyword}
 use Rattle.pcc_base.specs.declared.keyword.Keyword.TheVariants as words
@@ -23,8 +23,9 @@ use Rattle.c_syntax.specs.declared.operator.SpecifierWord.TheVariants as specifi
 abbrev pub ident : List ℕ → Span → Token
 ident name at = record { kind = kinds.Ident name; at = at }
 
+-- of a signed type, as each constant of the language is
 abbrev pub number : ℤ → Span → Token
-number value at = record { kind = kinds.Number value; at = at }
+number value at = record { kind = kinds.Number value false; at = at }
 
 abbrev pub text : List ℕ → Span → Token
 text bytes at = record { kind = kinds.Text bytes; at = at }

@@ -5,12 +5,11 @@
 //!
 //! The definitions, in `specs/`, say which raw trees a list of tokens has: trees without boxes, the tokens of a tree,
 //! its height, and which trees the rules make (C99 6.5 to 6.9); `Tree` of `Grammar.antt` joins them. A list of tokens
-//! has one raw tree at most (`one_raw_tree`).
+//! has one raw tree at most (`one_raw_tree` of `c_grammar`).
 #![tactic(auto)]
 
 mod declaration;
 mod expression;
-mod laws;
 mod operator;
 mod statement;
 mod unit;
@@ -20,7 +19,6 @@ pub use declaration::{
     Parameter, ParametersPart,
 };
 pub use expression::{CallParts, Expression, Identifier, Pointer, Specifier, TextPiece, TypeName};
-pub use laws::one_raw_tree;
 pub use operator::{AssignOp, BinaryOp, SpecifierWord, StepOp, UnaryOp};
 pub use statement::{
     DoParts, ForDeclarationParts, ForParts, IfElseParts, Label, Statement, SwitchParts,

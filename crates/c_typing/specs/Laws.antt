@@ -58,7 +58,7 @@ IsInt n = (negsuc 0x7fffffff ≤ℤ n) × (n <ℤ pos 0x80000000)
 abbrev pub HasIntIfAny : TokenKind → Type 0
 HasIntIfAny (tokens.Word word) = Unit {0}
 HasIntIfAny (tokens.Ident name) = Unit {0}
-HasIntIfAny (tokens.Number n) = IsInt n
+HasIntIfAny (tokens.Number n unsigned) = IsInt n
 HasIntIfAny (tokens.Text bytes) = Unit {0}
 HasIntIfAny (tokens.Mark mark) = Unit {0}
 

@@ -42,7 +42,6 @@ pub mod Data
 pub mod Start
 pub mod Called
 pub mod StartsReady
-pub mod Slots
 pub mod Memory
 pub mod Chain
 pub mod Shown

@@ -11,15 +11,14 @@ use Rattle.ia32_insn.specs.Places.{Place, InWord, InByte, InSlot}
 use Rattle.ia32_insn.specs.Spelling.{HasSpelling}
 use Rattle.ia32_insn.specs.Items.{Places, data_start, stack_end}
 use Rattle.flow_graph.specs.declared.op.Op.{Op}
-use Rattle.flow_graph.specs.Graphs.{Flow, IsFlow, IsIn, IsPlaced}
+use Rattle.flow_graph.specs.Graphs.{Flow, IsIn, IsPlaced}
 use Rattle.flow_graph.specs.Liveness.{BeginsWith, IsSuccessor, defined, uses}
 use Rattle.flow_graph.specs.Shapes.{Takes, NoRegister, Count, Division, AcrossCall, shape}
 use Rattle.flow_graph.specs.Sizes.{most_words}
 use Rattle.flow_graph.specs.States.{flow_at}
 use Rattle.flow_graph.specs.WellFormed.{IsGraphProgram}
-use Rattle.ia32_rows.specs.Placements.{Code, IsCode, Placement, in_slots, objects_of, placement_of}
+use Rattle.ia32_rows.specs.Placements.{Code, IsCode, Placement, objects_of, placement_of}
 use Rattle.ia32_rows.specs.Sites.{Site}
-use Rattle.ia32_rows.specs.Rows.{AllApart, IsSlot}
 pub use Rattle.ia32_rows.specs.Rows.{size_of}
 use Rattle.ia32_rows.specs.Contains.{IsPlaceIn}
 use Rattle.ia32_rows.specs.Copying.{Copies}
@@ -144,27 +143,6 @@ pub record Supports (flow : Flow) (placement : Placement) : Type 0 where
   pub moves : (point next : ℕ) → IsSuccessor flow point next → AreMoves flow placement point next
   pub stood : (point next v : ℕ) (place : Place) → IsSuccessor flow point next → placement.before next v ≡ Some place
       → (old : Place) × (placement.after point v ≡ Some old)
-
--- ---- slots
-
--- A slot of its own in a frame of so many bytes for each variable of a graph, apart from each other and from the
--- arrays.
-pub record AreSlots (flow : Flow) (frame : ℕ) (arrays slots : List ℕ) : Type 0 where
-  pub four_words : 16 ≤ frame
-  pub words : frame % 4 ≡ 0
-  pub arrays_in : AreArraysIn flow.arrays frame arrays
-  pub as_many : length slots ≡ length flow.widths
-  pub within : AllByRecursion (IsSlot frame) slots
-  pub apart : AllApart slots
-  pub clear : (v slot k below : ℕ) (array : ℕ × ℕ) → slice_get slots v ≡ Some slot
-      → slice_get flow.arrays k ≡ Some array
-      → slice_get arrays k ≡ Some below → IsSlotApart slot array below
-
--- slots for all variables support every graph
-abbrev pub SlotsSupport : Type 0
-SlotsSupport =
-    (flow : Flow) (homes : List ℕ) (frame : ℕ) (arrays slots : List ℕ) → IsFlow flow homes
-    → AreSlots flow frame arrays slots → Supports flow (in_slots frame arrays slots)
 
 -- ---- a program
 

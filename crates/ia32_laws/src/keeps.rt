@@ -1,4 +1,3 @@
-ghost use Rattle.ia32_laws.specs.Supports.{SlotsSupport};
 ghost use Rattle.ia32_laws.specs.KeepsLaws.{ShownInFrame, ProtectedIsApart, PushedIsApart, MovedShows, SetShows};
 ghost use Rattle.ia32_laws.specs.KeepsLaws.{ArrayShows, OwnArrayShows, ElementShows};
 ghost use Rattle.ia32_laws.specs.MovesLaws.{MovesLead, MovesShow};
@@ -6,11 +5,6 @@ ghost use Rattle.ia32_laws.specs.MovesWorked.{MovesSupport};
 ghost use Rattle.ia32_laws.specs.KeepsOps.{ExtensionFollows, NumberFollows, CopyFollows, SumFollows};
 ghost use Rattle.ia32_laws.specs.KeepsOps.{DifferenceFollows, AndFollows, OrFollows, XorFollows, ProductFollows};
 ghost use Rattle.ia32_laws.specs.KeepsOps.{NegationFollows, ComplementFollows, MarkFollows, TurnFollows};
-
-/// Slots for all variables, apart from each other and from the frame arrays, support every graph.
-pub fn slots_support()
-    ensures slots { SlotsSupport }
-{}
 
 /// A variable may stand in one register after a point and in another before the next, where an instruction moves it.
 pub fn a_move_is_supported()

@@ -32,7 +32,7 @@ pub use cores::{
 pub use entries::{functions_are_called, functions_begin, functions_return};
 pub use keeps::{
     a_move_is_supported, changed_array_is_shown, kept_stays_shown, moves_are_shown,
-    protected_is_apart, rows_follow, slots_support,
+    protected_is_apart, rows_follow,
 };
 pub use laws::programs_are_right;
 pub use routines_laws::{checks_trap, outside_is_followed};

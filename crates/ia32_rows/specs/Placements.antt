@@ -1,8 +1,7 @@
 -- Where variables, frame arrays and code stand.
 use Rattle.std.specs.Prelude.{◌≡◌, ℕ, pos, neg_ℤ, List, [], length, map, slice_get, slice_index_or, Option, Some, None}
-use Rattle.std.specs.Prelude.{option_map}
 use Rattle.ia32_insn.specs.declared.register_names.Reg32.TheVariants.{Ebp}
-use Rattle.ia32_insn.specs.Places.{Place, InSlot}
+use Rattle.ia32_insn.specs.Places.{Place}
 use Rattle.ia32_insn.specs.declared.operand.Mem.{Mem}
 use Rattle.ia32_insn.specs.declared.insn.Insn.{Insn}
 use Rattle.ia32_insn.specs.declared.item.Item.{Item}
@@ -23,18 +22,6 @@ pub record Placement : Type 0 where
   pub before : ℕ → ℕ → Option Place
   pub after : ℕ → ℕ → Option Place
   pub between : ℕ → ℕ → List Insn
-
--- every variable in a slot of its own, at every point: nothing moves, and all that is below the caller's registers is 0
-abbrev pub in_slots : ℕ → List ℕ → List ℕ → Placement
-in_slots frame arrays slots =
-    record {
-      frame = frame;
-      zeroed = 12;
-      arrays = arrays;
-      before = λ point variable. option_map InSlot (slice_get slots variable);
-      after = λ point variable. option_map InSlot (slice_get slots variable);
-      between = λ point next. [];
-    }
 
 abbrev pub no_placement : Placement
 no_placement =

@@ -1,8 +1,7 @@
 -- The items of a graph's points, by where its variables stand before and after each of them. A row works in one
 -- register, and takes its second operand where it stands.
-use Rattle.std.specs.Prelude.{◌≤◌, ◌⊎◌, ◌+◌, ⊤, ℕ, suc, List, [], ◌∷◌, ◌++◌, length, map}
+use Rattle.std.specs.Prelude.{◌≤◌, ◌⊎◌, ◌+◌, ℕ, suc, List, [], ◌∷◌, ◌++◌, length, map}
 use Rattle.std.specs.Prelude.{slice_get, slice_index_or, Option, Some, None, option_map, unwrap_or}
-use Rattle.std.specs.List.{AllByRecursion}
 use Rattle.ia32_insn.specs.declared.register_names.Reg32.TheVariants.{Eax, Edx}
 use Rattle.ia32_insn.specs.Places.{Place, InSlot}
 use Rattle.ia32_insn.specs.declared.insn.AluOp.TheVariants as alu
@@ -31,19 +30,9 @@ pub use Rattle.ia32_rows.specs.Clearing.{clear_row, size_of}
 
 -- ---- slots
 
--- a slot of four bytes stands so far below EBP, under the four words and in the frame
-pub record IsSlot (frame slot : ℕ) : Type 0 where
-  pub low : 20 ≤ slot
-  pub high : slot ≤ frame
-
 -- two slots have no byte in common
 abbrev pub AreApart : ℕ → ℕ → Type 0
 AreApart first second = (first + 4 ≤ second) ⊎ (second + 4 ≤ first)
-
--- no two slots of the list have
-abbrev pub AllApart : List ℕ → Type 0
-AllApart [] = ⊤
-AllApart (slot ∷ slots) = AllByRecursion (AreApart slot) slots × AllApart slots
 
 -- ---- the items of an op
 

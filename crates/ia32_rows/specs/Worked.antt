@@ -20,7 +20,7 @@ use Rattle.flow_graph.specs.declared.op.Comparison.TheVariants.{Lt}
 use Rattle.flow_graph.specs.declared.op.Op.{Op}
 use Rattle.flow_graph.specs.declared.op.Op.TheVariants as op
 use Rattle.flow_graph.specs.Graphs.{Flow}
-use Rattle.ia32_rows.specs.Placements.{Placement, below, in_slots}
+use Rattle.ia32_rows.specs.Placements.{Placement, below}
 use Rattle.ia32_rows.specs.Filling.{fill}
 use Rattle.ia32_rows.specs.Rows.{block_rows, headers, leave, prologue, row}
 
@@ -55,7 +55,7 @@ result_to result = record {
 -- did; a difference whose result stands where its second operand did goes by ESI.
 abbrev pub SumsAreRows : Type 0
 SumsAreRows =
-    (row_in (in_slots 28 [] (20 ∷ 24 ∷ 28 ∷ [])) (op.Add 2 0 1)
+    (row_in (all_in (InSlot 20) (InSlot 24) (InSlot 28)) (op.Add 2 0 1)
     ≡ plain (insn.MovLoad Esi (below 20)) ∷ plain (insn.AluLoad alu.Add Esi (below 24))
     ∷ plain (insn.Mov (rm.Mem (below 28)) Esi) ∷ [])
     × (row_in (result_to (InWord Edx)) (op.Add 2 0 1)

@@ -1,6 +1,5 @@
 pub mod Bridging
 mod Loops
-mod Slots
 pub mod Emitted
 mod Counted
 pub mod Fine

@@ -13,10 +13,9 @@ use Rattle.puzzle_board.specs.Places.{PlaceMap}
 use Rattle.allocator.specs.PointMaps.{array_below, bytes_of_arrays, slot_count}
 use Rattle.ia32_placements.specs.Placed.{above_arrays, arrays_in}
 use Rattle.ia32_emit.specs.Locations.{distance, slots_of}
-use Rattle.ia32_select.specs.Frames.{offset_of}
 use Rattle.ia32_select.specs.Selections.{CanSelect}
 use Rattle.ia32_select.specs.Room.{HasRoom}
-use Rattle.ia32_select.proofs.Loops.{numbers-more}
+use Rattle.ia32_select.proofs.Loops.{numbers-more, offset_of}
 
 -- ---- how large a frame is
 

@@ -1,9 +1,6 @@
 pub mod EdgeMoves
 pub mod Exits
-pub mod Frames
-pub mod Laws
 pub mod MoveTables
-pub mod PlacedSites
 pub mod Room
 pub mod Selections
 pub mod Sites

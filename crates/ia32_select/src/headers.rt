@@ -1,4 +1,4 @@
-//! The numbers of elements before frame arrays.
+//! The numbers of elements before frame arrays, over a map.
 
 ghost use Rattle.std.specs.Prelude.{◌≡◌, ◌<◌, ◌≤◌, ◌^◌, ◌+◌, ◌-◌, ◌++◌, ◌∷◌, [], OnOk, pos};
 ghost use Rattle.ia32_insn.specs.Items.{plain};
@@ -31,8 +31,9 @@ fn emit_header(out: &mut Vec<Item>, offset: i32, count: u32) -> Result<(), NoMem
 
 /// The number of each array's elements into the four bytes before them.
 pub fn emit_headers(out: &mut Vec<Item>, site: &Site<'_>) -> Result<(), NoMemory>
-    requires inside { AreArraysIn (flow_of site.now).arrays site.now.frame (placement_of site.now).arrays }
-    requires small { site.now.frame ≤ 16384 }
+    requires inside { AreArraysIn (flow_of site.now).arrays (placement_of site.now).frame
+        (placement_of site.now).arrays }
+    requires small { (placement_of site.now).frame ≤ 16384 }
     ensures { OnOk result (out.new.items
         ≡ out.old.items ++ headers (flow_of site.now).arrays (placement_of site.now).arrays) }
 {

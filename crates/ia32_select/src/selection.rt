@@ -4,13 +4,13 @@ ghost use Rattle.std.specs.Prelude.{◌≡◌, ◌<◌, ◌^◌, IfOk};
 ghost use Rattle.ia32_rows.specs.Rows.{selected};
 ghost use Rattle.ia32_emit.specs.Locations.{distance, slots_of};
 ghost use Rattle.ia32_placements.specs.Placed.{above_arrays, arrays_in};
-ghost use Rattle.ia32_select.specs.PlacedSites.{flow_of, placement_of, places_of};
+ghost use Rattle.ia32_select.specs.Sites.{flow_of, placement_of, places_of};
 ghost use Rattle.ia32_select.specs.Selections.{CanSelect, IsSelection};
 
-use crate::placed_blocks::emit_blocks;
-use crate::placed_frame::arrays_of;
-use crate::placed_headers::emit_headers;
-use crate::placed_site::PlacedSite;
+use crate::blocks::emit_blocks;
+use crate::frame::arrays_of;
+use crate::headers::emit_headers;
+use crate::site::Site;
 use crate::size_laws::selected_is_code;
 use crate::table_of_moves::table_of;
 use flow_graph::Graph;
@@ -29,7 +29,7 @@ fn below(bytes: u32) -> i32
 }
 
 /// The items that the definitions name; `above` is how many bytes of the frame are above its arrays.
-fn select_items(site: &PlacedSite<'_>, above: u32) -> Result<Vec<Item>, NoMemory>
+fn select_items(site: &Site<'_>, above: u32) -> Result<Vec<Item>, NoMemory>
     requires selects { CanSelect (flow_of site.now) (places_of site.now) }
     requires arrays { slots_of site.now.arrays.now ≡ arrays_in (flow_of site.now) (places_of site.now) }
     requires above { above ≡ above_arrays (places_of site.now) }
@@ -58,7 +58,7 @@ pub fn select(alloc: Global, graph: &Graph, map: &PointMap) -> Result<Vec<Item>,
     selected_is_code();
     let moves = table_of(alloc, graph, map)?;
     let arrays = arrays_of(alloc, graph, map)?;
-    let site = PlacedSite {
+    let site = Site {
         alloc,
         graph,
         map,

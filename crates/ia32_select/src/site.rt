@@ -1,63 +1,67 @@
-//! A graph over slots: where its variables and its frame arrays stand.
+//! A graph over a map: where its variables and its frame arrays stand, and what moves between points.
 
 ghost use Rattle.std.specs.Prelude.{◌≡◌, ◌<◌, ◌+◌, ◌^◌, IfOk, map, option_map, slice_index_or};
-ghost use Rattle.ia32_rows.specs.Rows.{loop_label};
+ghost use Rattle.ia32_insn.specs.declared.item.Item.TheVariants as item;
+ghost use Rattle.ia32_rows.specs.Rows.{loop_label, moves_into, moves_to};
 ghost use Rattle.ia32_emit.specs.Locations.{distance, place_of, slots_of};
-ghost use Rattle.ia32_select.specs.Sites.{flow_of, place_of_variable};
+ghost use Rattle.ia32_select.specs.Sites.{HasPoint, after_at, before_at, flow_of, placement_of};
 
+use crate::exits::first_point;
+use crate::move_table::MoveTable;
+use crate::places::location_or_ebp;
 use flow_graph::Graph;
 use ia32_emit::Location;
+use ia32_insn::Insn;
 use pcc_base::NoMemory;
+use puzzle_board::PointMap;
 use std::alloc::Global;
 
-/// A graph, the bytes of its frame, and the offsets of its variables and of its frame arrays from EBP.
+/// A graph, a map of it, the instructions between its points, and the offsets of its frame arrays from EBP.
 #[derive(Drop)]
 pub struct Site<'a> {
     pub alloc: Global,
     pub graph: &'a Graph,
-    pub frame: u32,
+    pub map: &'a PointMap,
+    pub moves: &'a MoveTable,
     pub arrays: &'a [i32],
-    pub variables: &'a [i32],
 }
 
-/// The offset of that number, or 0 where there is none.
-fn offset_at(offsets: &[i32], number: u32) -> i32
-    ensures { distance result ≡ slice_index_or (slots_of offsets.now) number 0 }
+/// Where a variable stands before a point; one that stands nowhere is at EBP.
+pub fn before(site: &Site<'_>, point: u32, variable: &u32) -> Location
+    requires { HasPoint site.now point }
+    ensures { place_of result ≡ before_at site.now point variable.now }
 {
-    match offsets.get(number as usize) {
-        Some(offset) => *offset,
-        None => 0,
-    }
+    location_or_ebp(site.map.before(point, *variable))
 }
 
-/// Where a variable stands; one that has no slot is at EBP.
-pub fn at(site: &Site<'_>, variable: &u32) -> Location
-    ensures { place_of result ≡ place_of_variable site.now variable.now }
+/// Where a variable stands after a point; one that stands nowhere is at EBP.
+pub fn after(site: &Site<'_>, point: u32, variable: &u32) -> Location
+    requires { HasPoint site.now point }
+    ensures { place_of result ≡ after_at site.now point variable.now }
 {
-    match site.variables.get(*variable as usize) {
-        Some(offset) => Location::Slot(*offset),
-        None => Location::Slot(0),
-    }
+    location_or_ebp(site.map.after(point, *variable))
 }
 
-/// Where a variable stands, if there is one.
-pub fn any_at(site: &Site<'_>, variable: &Option<u32>) -> Option<Location>
-    ensures { option_map place_of result ≡ option_map (place_of_variable site.now) variable.now }
+/// Where a variable stands after a point, if there is one.
+pub fn any_after(site: &Site<'_>, point: u32, variable: &Option<u32>) -> Option<Location>
+    requires { HasPoint site.now point }
+    ensures { option_map place_of result ≡ option_map (after_at site.now point) variable.now }
 {
     match variable {
-        Some(variable) => Some(at(site, variable)),
+        Some(variable) => Some(after(site, point, variable)),
         None => None,
     }
 }
 
-/// Where each of these variables stands.
-pub fn all_at(site: &Site<'_>, variables: &[u32]) -> Result<Vec<Location>, NoMemory>
+/// Where each of these variables stands before a point.
+pub fn all_before(site: &Site<'_>, point: u32, variables: &[u32]) -> Result<Vec<Location>, NoMemory>
+    requires { HasPoint site.now point }
     ensures { IfOk result (λ locations. map place_of locations.items
-        ≡ map (place_of_variable site.now) variables.now) }
+        ≡ map (before_at site.now point) variables.now) }
 {
     let mut locations = Vec::new(site.alloc);
     for variable in variables {
-        locations.push(at(site, variable))?;
+        locations.push(before(site, point, variable))?;
     }
     Ok(locations)
 }
@@ -66,7 +70,10 @@ pub fn all_at(site: &Site<'_>, variables: &[u32]) -> Result<Vec<Location>, NoMem
 pub fn array_at(site: &Site<'_>, array: u32) -> i32
     ensures { distance result ≡ slice_index_or (slots_of site.now.arrays.now) array 0 }
 {
-    offset_at(site.arrays, array)
+    match site.arrays.get(array as usize) {
+        Some(offset) => *offset,
+        None => 0,
+    }
 }
 
 /// The bytes of an element of a frame array, and the number of its elements; 0 and 0 where there is no such array.
@@ -80,10 +87,27 @@ pub fn array_of(site: &Site<'_>, array: u32) -> (u8, u32)
     }
 }
 
-/// The label of a point's loop.
+/// The label of a point's loop or detour.
 pub fn loop_label(site: &Site<'_>, point: u32) -> u32
     requires { loop_label (flow_of site.now) point < 2 ^ 32 }
     ensures { result ≡ loop_label (flow_of site.now) point }
 {
     site.graph.blocks() + 1 + point
+}
+
+/// The moves from a point to the next one, if there is one.
+pub fn moves_to<'a>(site: &Site<'a>, point: u32, next: Option<u32>) -> &'a [Insn]
+    ensures { map item.Plain result.now ≡ moves_to (placement_of site.now) point next }
+{
+    match next {
+        Some(next) => site.moves.between(point, next),
+        None => &[],
+    }
+}
+
+/// The moves from a point to the first point of a block.
+pub fn moves_into<'a>(site: &Site<'a>, point: u32, block: u32) -> &'a [Insn]
+    ensures { map item.Plain result.now ≡ moves_into (flow_of site.now) (placement_of site.now) point block }
+{
+    moves_to(site, point, first_point(site.graph, block))
 }

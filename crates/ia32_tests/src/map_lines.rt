@@ -1,4 +1,4 @@
-//! Lines of whole maps, by hand.
+//! Lines of maps, by hand.
 
 use crate::expected::expect;
 use flow_graph::{Bits, Comparison, Op, Words};
@@ -144,7 +144,22 @@ before 0=eax 1=ebx 2=ecx 3=ah
 after 0=edx 1=[ebp-20] 2=[ebp-2147483648] 3=bl
 spilled 1 2
 block 1
-point 4294967295 08048020 return -
+point 4 08048020 mark 1
+board bb bb bb bb pieces
+before
+after
+spilled
+point 5 08048021 call 3 1 0 2
+board bb bb bb bb pieces
+before
+after
+spilled
+point 6 08048030 call - 0
+board bb bb bb bb pieces
+before
+after
+spilled
+point 4294967295 c0def9a1 return -
 board bb bb bb bb pieces
 before
 after
@@ -218,14 +233,24 @@ fn push_first(out: &mut Vec<u8>) -> Result<(), NoMemory> {
     push_spilled(out, &[1, 2])
 }
 
-/// A block of one point at which nothing stands.
-fn push_second(out: &mut Vec<u8>) -> Result<(), NoMemory> {
-    push_block(out, 1)?;
-    push_point(out, 4294967295, 0x0804_8020, &Op::Return(None))?;
+/// A point at which nothing stands.
+fn push_bare(out: &mut Vec<u8>, point: u32, address: u32, op: &Op) -> Result<(), NoMemory> {
+    push_point(out, point, address, op)?;
     push_board(out, &[free(), free(), free(), free()], &[])?;
     push_before(out, &[])?;
     push_after(out, &[])?;
     push_spilled(out, &[])
+}
+
+/// A block with a mark, calls and an end.
+fn push_second(rt: &impl Abort, alloc: Global, out: &mut Vec<u8>) -> Result<(), NoMemory> {
+    let some = Op::Call(Some(3), 1, words(rt, alloc, &[0, 2]));
+    let none = Op::Call(None, 0, words(rt, alloc, &[]));
+    push_block(out, 1)?;
+    push_bare(out, 4, 0x0804_8020, &Op::Mark(1))?;
+    push_bare(out, 5, 0x0804_8021, &some)?;
+    push_bare(out, 6, 0x0804_8030, &none)?;
+    push_bare(out, 4294967295, 0xc0de_f9a1, &Op::Return(None))
 }
 
 /// Lines of each kind.
@@ -235,7 +260,7 @@ fn each_line(rt: HostRuntime) {
     let mut out = Vec::new(alloc);
     push_heads(&rt, alloc, &mut out).expect(&rt, "heads");
     push_first(&mut out).expect(&rt, "a block");
-    push_second(&mut out).expect(&rt, "a block");
+    push_second(&rt, alloc, &mut out).expect(&rt, "a block");
     push_end(&mut out).expect(&rt, "the end");
     expect(&rt, &out.as_slice(), &TEXT.as_bytes(), "the map");
 }

@@ -29,9 +29,9 @@ use Rattle.flow_graph.specs.declared.op.Comparison.TheVariants.{Eq, Ne, Lt, Le, 
 use Rattle.map_text.specs.Fields.{cut_at, before, number_in, below_in, if_any_in}
 use Rattle.map_text.specs.Fields.{bytes_in, width_in, bits_in, comparison_in, named_in, named_by, register_in, place_in}
 use Rattle.map_text.specs.Fields.{standing_in, column_in, area_in, kind_in, width_of_digit, piece_in, all_in}
-use Rattle.map_text.specs.Lines.{bits_text, comparison_text, if_any_text, named_text, place_text, width_text}
 use Rattle.map_text.specs.Maps.{IsNumber, IsNamed, Named, NamesScalar, NamesArray, NamesIndex, Standing, Temporary}
-use Rattle.map_text.specs.Words.{area_word, column_letter, kind_letter, piece_word, standing_word, width_digit}
+use Rattle.map_text.specs.Words.{area_word, bits_text, column_letter, comparison_text, if_any_text, kind_letter}
+use Rattle.map_text.specs.Words.{named_text, piece_word, place_text, standing_word, width_digit, width_text}
 use Rattle.map_text.proofs.LineRules.{IsAnyNumber, IsStandingText}
 use Rattle.map_text.proofs.Numbers.{below-read, number-read}
 use Rattle.map_text.proofs.Plain.{Avoids, IsPlain, decimal-plain, digits-avoid, name-avoids, name-plain, plain-append}

@@ -2,7 +2,7 @@
 use Rattle.std.proofs.Common.{◌≡◌, ℕ, ◌+◌, ◌-◌, ◌*◌, ◌/◌, ◌%◌, ◌^◌, ◌<◌, [], ◌∷◌, ◌++◌, refl, sym, ap, ◌∙◌, add-one}
 use Rattle.std.proofs.Common.{pow-add, arith}
 use Rattle.std.proofs.Math.Nat.{div-div-eq-div-mul, div-one}
-use Rattle.map_text.specs.Lines.{hexadecimal, hexadecimal_digit}
+use Rattle.map_text.specs.Words.{hexadecimal, hexadecimal_digit}
 
 -- one digit more is the lowest
 hexadecimal-lowest : (k n : ℕ) → hexadecimal (k + 1) n ≡ hexadecimal k (n / 16) ++ hexadecimal_digit (n % 16) ∷ []

@@ -1,4 +1,3 @@
-pub mod Calls
 pub mod Fields
 pub mod FieldsRead
 pub mod Hexadecimal
@@ -7,15 +6,10 @@ pub mod LinesRead
 pub mod LocalNames
 pub mod MapLines
 pub mod Numbers
-pub mod OneMap
-pub mod OneText
 pub mod OpsRead
-pub mod Places
 pub mod Plain
-mod TextLines
 pub mod Printed
 pub mod PrintedHeads
 pub mod PrintedLines
-pub mod SameLines
 pub mod TreesRead
 pub mod WholeMaps

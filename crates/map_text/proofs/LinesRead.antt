@@ -20,13 +20,13 @@ use Rattle.flow_graph.specs.declared.op.Op.{Op}
 use Rattle.flow_graph.specs.declared.op.Op.TheVariants as op
 use Rattle.map_text.specs.Fields.{all_in, number_in, piece_in}
 use Rattle.map_text.specs.Fields.{standing_in}
-use Rattle.map_text.specs.Lines.{bits_text, comparison_text, if_any_text, op_words, width_text}
 use Rattle.map_text.specs.Maps.{IsNamed, IsNumber, Named, Standing}
 use Rattle.map_text.specs.Reading.{array_in, block_in, board_in, function_in, line_by, line_in, object_in}
 use Rattle.map_text.specs.Reading.{point_in, variable_in, words_of}
-use Rattle.map_text.specs.Words.{Line, TitleLine, ObjectLine, FunctionLine, ArrayLine, VariableLine, BlockLine, PointLine}
-use Rattle.map_text.specs.Words.{BoardLine, BeforeLine, AfterLine, SpilledLine, EndLine, area_word, line_text, line_words}
-use Rattle.map_text.specs.Words.{piece_word, spaced, standing_word}
+use Rattle.map_text.specs.Words.{AfterLine, ArrayLine, BeforeLine, BlockLine, BoardLine, EndLine, FunctionLine, Line}
+use Rattle.map_text.specs.Words.{ObjectLine, PointLine, SpilledLine, TitleLine, VariableLine, area_word, bits_text}
+use Rattle.map_text.specs.Words.{comparison_text, if_any_text, line_text, line_words, op_words, piece_word, spaced}
+use Rattle.map_text.specs.Words.{standing_word, width_text}
 use Rattle.map_text.proofs.FieldsRead.{IsPieceText, all-plain, all-read, area-plain, area-read, bytes-read, named-plain}
 use Rattle.map_text.proofs.FieldsRead.{named-read, piece-plain, piece-read, standing-plain, standing-read, width-read}
 use Rattle.map_text.proofs.LineRules.{IsAnyNumber, IsStandingText}

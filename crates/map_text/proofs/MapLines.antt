@@ -18,9 +18,8 @@ use Rattle.flow_graph.specs.WellFormed.{IsWithin}
 use Rattle.map_text.specs.Maps.{HasNumber, IsMapArray, IsMapObject, IsMapOp, IsMapVariable, IsNumber, IsStanding, Map}
 use Rattle.map_text.specs.Maps.{MapArray, MapFunction, MapObject, MapPoint, MapVariable, Standing, flow_of, points_of}
 use Rattle.map_text.specs.Rules.{IsMap, IsMapFunction, IsMapPiece, IsMapPoint}
-use Rattle.map_text.specs.Words.{Line}
-use Rattle.map_text.specs.Words.{EndLine, array_lines, block_lines}
-use Rattle.map_text.specs.Words.{function_lines, numbered, object_lines, point_lines, variable_lines}
+use Rattle.map_text.specs.Words.{EndLine, Line, array_lines, block_lines, function_lines, numbered, object_lines}
+use Rattle.map_text.specs.Words.{point_lines, variable_lines}
 use Rattle.map_text.proofs.FieldsRead.{IsPieceText}
 use Rattle.map_text.proofs.LineRules.{IsAnyNumber, IsStandingText}
 use Rattle.map_text.proofs.LinesRead.{IsLine}

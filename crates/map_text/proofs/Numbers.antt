@@ -13,7 +13,7 @@ use Rattle.std.specs.Str.Parse.{without_leading_plus, without_leading_sign}
 use Rattle.ia32_insn.specs.Reading.{◌>>=◌}
 use Rattle.map_text.specs.Fields.{are_digits, is_numeral, unsigned_in, number_in, address_in, signed_in, below_in}
 use Rattle.map_text.specs.Fields.{fits_word, negative}
-use Rattle.map_text.specs.Lines.{hexadecimal, hexadecimal_digit, address_text}
+use Rattle.map_text.specs.Words.{hexadecimal, hexadecimal_digit, address_text}
 use Rattle.map_text.specs.Maps.{IsNumber}
 use Rattle.map_text.proofs.Fields.{hexadecimal-length, sixteenth}
 

@@ -7,7 +7,7 @@ use Rattle.flow_graph.specs.declared.op.Comparison.{Comparison}
 use Rattle.flow_graph.specs.declared.op.Op.{Op}
 use Rattle.flow_graph.specs.declared.op.Op.TheVariants as op
 use Rattle.map_text.specs.Fields.{number_in}
-use Rattle.map_text.specs.Lines.{op_words}
+use Rattle.map_text.specs.Words.{op_words}
 use Rattle.map_text.specs.Maps.{IsNumber}
 use Rattle.map_text.specs.Reading.{call_in, op_by, op_in, op_of_one, op_of_two, op_of_three, op_with_one, op_with_two}
 use Rattle.map_text.specs.Reading.{op_with_three, op_with_four, op_with_five}

@@ -10,9 +10,8 @@ use Rattle.std.specs.List.{AllByRecursion, slice_split}
 use Rattle.pcc_base.proofs.Lists.{all-append, all-weaker}
 use Rattle.pcc_base.specs.Ascii.{newline, space, digit_zero}
 use Rattle.pcc_base.specs.Names.{IsDigit, IsName, IsNameByte}
-use Rattle.map_text.specs.Lines.{hexadecimal, hexadecimal_digit}
 use Rattle.map_text.specs.Reading.{words_of}
-use Rattle.map_text.specs.Words.{each_spaced, spaced}
+use Rattle.map_text.specs.Words.{each_spaced, hexadecimal, hexadecimal_digit, spaced}
 use Rattle.map_text.proofs.Fields.{decimal-digits}
 use Rattle.map_text.proofs.LocalNames.{no-name-byte, name-bytes}
 

@@ -3,8 +3,7 @@ use Rattle.std.proofs.Common.{◌≡◌, ℕ, List, [], ◌∷◌, ◌++◌, cod
 use Rattle.std.proofs.Common.{append_assoc, append-nil}
 use Rattle.pcc_base.specs.Ascii.{space}
 use Rattle.flow_graph.specs.declared.op.Op.TheVariants as op
-use Rattle.map_text.specs.Lines.{argument_text, if_any_text, op_words}
-use Rattle.map_text.specs.Words.{each_spaced}
+use Rattle.map_text.specs.Words.{argument_text, each_spaced, if_any_text, op_words}
 
 -- words behind words
 pub each-append : (xs ys : List (List ℕ)) → each_spaced (xs ++ ys) ≡ each_spaced xs ++ each_spaced ys

@@ -1,10 +1,10 @@
--- The lines of objects, functions, arrays and variables: their words one after another, and what today's text of them is.
+-- The lines of objects, functions, arrays and variables: their words one after another.
 use Rattle.std.proofs.Common.{◌≡◌, ℕ, List, [], ◌∷◌, ◌++◌, codes, decimal, sym, ap, ◌∙◌, append_assoc, append-nil}
 use Rattle.pcc_base.specs.Ascii.{minus, newline, space}
 use Rattle.pcc_base.specs.declared.run.Width.{Width}
-use Rattle.map_text.specs.Lines.{address_text, named_text, width_text}
 use Rattle.map_text.specs.Maps.{Named}
-use Rattle.map_text.specs.Words.{ArrayLine, FunctionLine, ObjectLine, VariableLine, each_spaced, line_text, spaced}
+use Rattle.map_text.specs.Words.{ArrayLine, FunctionLine, ObjectLine, VariableLine, address_text, each_spaced}
+use Rattle.map_text.specs.Words.{line_text, named_text, spaced, width_text}
 use Rattle.map_text.proofs.Printed.{four_pushed, more-pushed, word_pushed}
 use Rattle.map_text.proofs.PrintedLines.{line-made}
 

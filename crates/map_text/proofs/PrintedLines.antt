@@ -4,10 +4,10 @@ use Rattle.pcc_base.specs.Ascii.{newline, space}
 use Rattle.puzzle_board.specs.declared.area.Area.{Area}
 use Rattle.puzzle_board.specs.declared.piece.Piece.{Piece}
 use Rattle.flow_graph.specs.declared.op.Op.{Op}
-use Rattle.map_text.specs.Lines.{address_text, argument_text, op_words, place_text}
 use Rattle.map_text.specs.Maps.{Standing}
-use Rattle.map_text.specs.Words.{AfterLine, BeforeLine, BlockLine, BoardLine, PointLine, SpilledLine, area_word}
-use Rattle.map_text.specs.Words.{each_spaced, kind_letter, line_text, piece_word, standing_word, width_digit}
+use Rattle.map_text.specs.Words.{AfterLine, BeforeLine, BlockLine, BoardLine, PointLine, SpilledLine, address_text}
+use Rattle.map_text.specs.Words.{area_word, argument_text, each_spaced, kind_letter, line_text, op_words, piece_word}
+use Rattle.map_text.specs.Words.{place_text, standing_word, width_digit}
 use Rattle.map_text.proofs.Printed.{each-append, more-pushed, numbers-spaced}
 
 -- words that are put a space before each

@@ -2,9 +2,8 @@
 use Rattle.std.proofs.Common.{◌≡◌, ℕ, suc, List, [], ◌∷◌, ◌++◌, flat_map, refl, sym, ap, ◌∙◌, append_assoc, append-nil}
 use Rattle.map_text.specs.Maps.{Map, MapArray, MapFunction, MapObject, MapPoint, MapVariable}
 use Rattle.map_text.specs.Reading.{in_block, in_function, in_last, in_point, new_function, new_point, with_line}
-use Rattle.map_text.specs.Words.{Line, BoardLine}
-use Rattle.map_text.specs.Words.{BeforeLine, AfterLine, SpilledLine, array_lines, block_lines, function_lines, numbered}
-use Rattle.map_text.specs.Words.{object_lines, point_lines, variable_lines}
+use Rattle.map_text.specs.Words.{AfterLine, BeforeLine, BoardLine, Line, SpilledLine, array_lines, block_lines}
+use Rattle.map_text.specs.Words.{function_lines, numbered, object_lines, point_lines, variable_lines}
 
 -- the map with lines more
 abbrev pub put : Map → List Line → Map

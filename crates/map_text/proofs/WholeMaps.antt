@@ -8,9 +8,8 @@ use Rattle.pcc_base.specs.Ascii.{newline}
 use Rattle.map_text.specs.Maps.{Map}
 use Rattle.map_text.specs.Reading.{map_by, map_from, map_in, with_line}
 use Rattle.map_text.specs.Rules.{IsMap}
-use Rattle.map_text.specs.Words.{Line, TitleLine, ObjectLine, FunctionLine, ArrayLine, VariableLine, BlockLine, PointLine}
-use Rattle.map_text.specs.Words.{BoardLine, BeforeLine, AfterLine, SpilledLine, EndLine, line_text}
-use Rattle.map_text.specs.Words.{map_text}
+use Rattle.map_text.specs.Words.{AfterLine, ArrayLine, BeforeLine, BlockLine, BoardLine, EndLine, FunctionLine, Line}
+use Rattle.map_text.specs.Words.{ObjectLine, PointLine, SpilledLine, TitleLine, VariableLine, line_text, map_text}
 use Rattle.map_text.proofs.LinesRead.{line-cut, line-given}
 use Rattle.map_text.proofs.MapLines.{AreReadLines, IsInner, inner_lines, lines-read}
 use Rattle.map_text.proofs.TreesRead.{lines-put, put}

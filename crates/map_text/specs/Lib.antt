@@ -1,4 +1,3 @@
-pub mod Lines
 pub mod Maps
 pub mod Rules
 pub mod Words

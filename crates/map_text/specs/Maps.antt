@@ -10,8 +10,7 @@ use Rattle.puzzle_board.specs.declared.area.Area.{Area}
 use Rattle.puzzle_board.specs.declared.piece.Piece.{Piece}
 use Rattle.ia32_insn.specs.Places.{Place, InWord, InByte, InSlot, IsPlace}
 use Rattle.flow_graph.specs.declared.op.Op.{Op}
-use Rattle.flow_graph.specs.declared.op.Op.TheVariants as op
-use Rattle.flow_graph.specs.Graphs.{Flow, FitsOp, IsDistinct}
+use Rattle.flow_graph.specs.Graphs.{Flow, FitsOp}
 use Rattle.flow_graph.specs.Lives.{IsAscending}
 use Rattle.flow_graph.specs.Shapes.{About, NothingElse, TheNumber, TheWord, TheObject, TheFunction, TheStatement}
 use Rattle.flow_graph.specs.Shapes.{TheTurn, shape}
@@ -74,7 +73,7 @@ pub record Map : Type 0 where
 abbrev pub points_of : MapFunction → List MapPoint
 points_of f = flat_map (λ block. block) f.blocks
 
--- ---- the rules of a map
+-- ---- the rules of a map's parts
 
 -- every number of a map
 abbrev pub IsNumber : ℕ → Type 0
@@ -147,39 +146,3 @@ pub record IsMapOp (m : Map) (f : MapFunction) (op : Op) : Type 0 where
   pub fits : FitsOp (flow_of f) op
   pub names : NamesWithin (length m.functions) (length m.objects) op
   pub numbers : HasNumbers op
-
--- the ops whose points have a line so far: marks, and calls of functions
-abbrev pub IsListed : Op → Type 0
-IsListed (op.Mark s) = ⊤
-IsListed (op.Call d f arguments) = ⊤
-IsListed _ = ⊥
-
--- So far a point has no board, no variables after it and none that are spilled.
-pub record IsMapPoint (m : Map) (f : MapFunction) (p : MapPoint) : Type 0 where
-  pub number : IsNumber p.number
-  pub address : IsNumber p.address
-  pub op : IsMapOp m f p.op
-  pub listed : IsListed p.op
-  pub areas : p.areas ≡ []
-  pub pieces : p.pieces ≡ []
-  pub before : AreStandings f.variables p.before
-  pub after : p.after ≡ []
-  pub spilled : p.spilled ≡ []
-
--- No two points of a function have one number. So far all its points stand in one block.
-pub record IsMapFunction (m : Map) (f : MapFunction) : Type 0 where
-  pub name : IsName f.name
-  pub frame : IsNumber f.frame
-  pub arrays : All IsMapArray f.arrays
-  pub few_arrays : length f.arrays ≤ 2 ^ 32
-  pub variables : All IsMapVariable f.variables
-  pub few_variables : length f.variables ≤ 2 ^ 32
-  pub one_block : (points : List MapPoint) × (f.blocks ≡ points ∷ [])
-  pub points : All (IsMapPoint m f) (points_of f)
-  pub distinct : IsDistinct (map (λ p. p.number) (points_of f))
-
-pub record IsMap (m : Map) : Type 0 where
-  pub objects : All IsMapObject m.objects
-  pub few_objects : length m.objects ≤ 2 ^ 32
-  pub functions : All (IsMapFunction m) m.functions
-  pub few_functions : length m.functions ≤ 2 ^ 32

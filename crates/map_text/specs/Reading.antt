@@ -12,8 +12,8 @@ use Rattle.flow_graph.specs.declared.op.Op.TheVariants as op
 use Rattle.map_text.specs.Fields.{number_in, address_in, signed_in, below_in, bytes_in, width_in, named_in, if_any_in}
 use Rattle.map_text.specs.Fields.{bits_in, comparison_in, standing_in, area_in, piece_in, all_in}
 use Rattle.map_text.specs.Maps.{Map, MapFunction, MapPoint}
-use Rattle.map_text.specs.Words.{Line, TitleLine, ObjectLine, FunctionLine, ArrayLine, VariableLine, BlockLine, PointLine}
-use Rattle.map_text.specs.Words.{BoardLine, BeforeLine, AfterLine, SpilledLine, EndLine}
+use Rattle.map_text.specs.Words.{AfterLine, ArrayLine, BeforeLine, BlockLine, BoardLine, EndLine, FunctionLine, Line}
+use Rattle.map_text.specs.Words.{ObjectLine, PointLine, SpilledLine, TitleLine, VariableLine}
 
 -- ---- ops, by how many words follow the first
 

@@ -1,8 +1,10 @@
--- The text of a whole map: lines of words, with one space between two words and a newline behind each line. Numbers are
+-- The text of a map: lines of words, with one space between two words and a newline behind each line. Numbers are
 -- decimal, and addresses are eight lower-case hexadecimal digits.
-use Rattle.std.specs.Prelude.{ℕ, suc, List, [], ◌∷◌, ◌++◌, flat_map, map, codes, decimal}
-use Rattle.pcc_base.specs.Ascii.{newline, space, minus, colon, equals_sign, digit_one, digit_two, capital_x, capital_y}
-use Rattle.pcc_base.specs.Ascii.{capital_z, letter_b, letter_l, letter_n, letter_u}
+use Rattle.std.specs.Prelude.{ℕ, zero, suc, ◌+◌, ◌-◌, ◌/◌, ◌%◌, List, [], ◌∷◌, ◌++◌, flat_map, map, codes, decimal}
+use Rattle.std.specs.Prelude.{nat_lt, if◌then◌else◌, Option, Some, None}
+use Rattle.std.specs.Fmt.{signed_decimal}
+use Rattle.pcc_base.specs.Ascii.{newline, space, minus, colon, equals_sign, digit_zero, digit_one, digit_two}
+use Rattle.pcc_base.specs.Ascii.{capital_x, capital_y, capital_z, letter_a, letter_b, letter_l, letter_n, letter_u}
 use Rattle.pcc_base.specs.declared.run.Width.{Width}
 use Rattle.pcc_base.specs.declared.run.Width.TheVariants.{One, Two}
 use Rattle.puzzle_board.specs.declared.area.Area.{Area}
@@ -11,9 +13,19 @@ use Rattle.puzzle_board.specs.declared.area.Column.TheVariants.{Both, Upper, Low
 use Rattle.puzzle_board.specs.declared.piece.Kind.{Kind}
 use Rattle.puzzle_board.specs.declared.piece.Kind.TheVariants.{X, Y, Z}
 use Rattle.puzzle_board.specs.declared.piece.Piece.{Piece}
+use Rattle.ia32_insn.specs.declared.register_names.Reg32.{Reg32}
+use Rattle.ia32_insn.specs.declared.register_names.Reg32.TheVariants.{Eax, Ecx, Edx, Ebx, Esp, Ebp, Esi, Edi}
+use Rattle.ia32_insn.specs.declared.register_names.Reg8.{Reg8}
+use Rattle.ia32_insn.specs.declared.register_names.Reg8.TheVariants.{Al, Cl, Dl, Bl, Ah, Ch, Dh, Bh}
+use Rattle.ia32_insn.specs.Places.{Place, InWord, InByte, InSlot}
+use Rattle.flow_graph.specs.declared.op.Bits.{Bits}
+use Rattle.flow_graph.specs.declared.op.Bits.TheVariants.{Eight, Sixteen, ThirtyTwo}
+use Rattle.flow_graph.specs.declared.op.Comparison.{Comparison}
+use Rattle.flow_graph.specs.declared.op.Comparison.TheVariants.{Eq, Ne, Lt, Le, Gt, Ge}
 use Rattle.flow_graph.specs.declared.op.Op.{Op}
+use Rattle.flow_graph.specs.declared.op.Op.TheVariants as op
 use Rattle.map_text.specs.Maps.{Map, MapObject, MapFunction, MapArray, MapVariable, MapPoint, Standing, Named}
-use Rattle.map_text.specs.Lines.{address_text, width_text, named_text, place_text, op_words}
+use Rattle.map_text.specs.Maps.{NamesScalar, NamesArray, NamesIndex, Temporary}
 
 pub data Line : Type 0 where
   -- the first line
@@ -76,6 +88,116 @@ function_lines k f =
 abbrev pub lines_of : Map → List Line
 lines_of m =
     TitleLine ∷ numbered object_lines 0 m.objects ++ numbered function_lines 0 m.functions ++ EndLine ∷ []
+
+-- ---- fields
+
+abbrev pub hexadecimal_digit : ℕ → ℕ
+hexadecimal_digit d = if nat_lt d 10 then digit_zero + d else letter_a - 10 + d
+
+-- the lowest k hexadecimal digits of n, the highest first
+abbrev pub hexadecimal : ℕ → ℕ → List ℕ
+hexadecimal zero n = []
+hexadecimal (suc k) n = hexadecimal k (n / 16) ++ hexadecimal_digit (n % 16) ∷ []
+
+abbrev pub address_text : ℕ → List ℕ
+address_text n = hexadecimal 8 n
+
+abbrev pub register_text : Reg32 → List ℕ
+register_text Eax = codes "eax"
+register_text Ecx = codes "ecx"
+register_text Edx = codes "edx"
+register_text Ebx = codes "ebx"
+register_text Esp = codes "esp"
+register_text Ebp = codes "ebp"
+register_text Esi = codes "esi"
+register_text Edi = codes "edi"
+
+abbrev pub byte_text : Reg8 → List ℕ
+byte_text Al = codes "al"
+byte_text Cl = codes "cl"
+byte_text Dl = codes "dl"
+byte_text Bl = codes "bl"
+byte_text Ah = codes "ah"
+byte_text Ch = codes "ch"
+byte_text Dh = codes "dh"
+byte_text Bh = codes "bh"
+
+abbrev pub place_text : Place → List ℕ
+place_text (InWord r) = register_text r
+place_text (InByte r) = byte_text r
+place_text (InSlot below) = codes "[ebp-" ++ decimal below ++ codes "]"
+
+abbrev pub named_text : Named → List ℕ
+named_text (NamesScalar name) = name
+named_text (NamesArray name) = name ++ codes ".base"
+named_text (NamesIndex name) = name ++ codes ".index"
+named_text Temporary = codes "-"
+
+abbrev pub width_text : Width → List ℕ
+width_text One = codes "1"
+width_text Two = codes "2"
+
+abbrev pub bits_text : Bits → List ℕ
+bits_text Eight = codes "8"
+bits_text Sixteen = codes "16"
+bits_text ThirtyTwo = codes "32"
+
+abbrev pub comparison_text : Comparison → List ℕ
+comparison_text Eq = codes "eq"
+comparison_text Ne = codes "ne"
+comparison_text Lt = codes "lt"
+comparison_text Le = codes "le"
+comparison_text Gt = codes "gt"
+comparison_text Ge = codes "ge"
+
+-- a variable, or `-` where there is none
+abbrev pub if_any_text : Option ℕ → List ℕ
+if_any_text None = codes "-"
+if_any_text (Some v) = decimal v
+
+-- an argument word, with the space before it
+abbrev pub argument_text : ℕ → List ℕ
+argument_text v = codes " " ++ decimal v
+
+-- the words of an op
+abbrev pub op_words : Op → List (List ℕ)
+op_words (op.Const d n) = codes "const" ∷ decimal d ∷ signed_decimal n ∷ []
+op_words (op.Copy d s) = codes "copy" ∷ decimal d ∷ decimal s ∷ []
+op_words (op.Wide d s) = codes "wide" ∷ decimal d ∷ decimal s ∷ []
+op_words (op.Low d s) = codes "low" ∷ decimal d ∷ decimal s ∷ []
+op_words (op.Low16 d s) = codes "low16" ∷ decimal d ∷ decimal s ∷ []
+op_words (op.Neg d a) = codes "neg" ∷ decimal d ∷ decimal a ∷ []
+op_words (op.Not d a) = codes "not" ∷ decimal d ∷ decimal a ∷ []
+op_words (op.Add d a b) = codes "add" ∷ decimal d ∷ decimal a ∷ decimal b ∷ []
+op_words (op.Sub d a b) = codes "sub" ∷ decimal d ∷ decimal a ∷ decimal b ∷ []
+op_words (op.Mul d a b) = codes "mul" ∷ decimal d ∷ decimal a ∷ decimal b ∷ []
+op_words (op.And d a b) = codes "and" ∷ decimal d ∷ decimal a ∷ decimal b ∷ []
+op_words (op.Or d a b) = codes "or" ∷ decimal d ∷ decimal a ∷ decimal b ∷ []
+op_words (op.Xor d a b) = codes "xor" ∷ decimal d ∷ decimal a ∷ decimal b ∷ []
+op_words (op.Shl d a c) = codes "shl" ∷ decimal d ∷ decimal a ∷ decimal c ∷ []
+op_words (op.Sar d a c) = codes "sar" ∷ decimal d ∷ decimal a ∷ decimal c ∷ []
+op_words (op.Div d a b) = codes "div" ∷ decimal d ∷ decimal a ∷ decimal b ∷ []
+op_words (op.Rem d a b) = codes "rem" ∷ decimal d ∷ decimal a ∷ decimal b ∷ []
+op_words (op.Set how d a b) = codes "set" ∷ comparison_text how ∷ decimal d ∷ decimal a ∷ decimal b ∷ []
+op_words (op.Frame d k) = codes "frame" ∷ decimal d ∷ decimal k ∷ []
+op_words (op.Static d k) = codes "static" ∷ decimal d ∷ decimal k ∷ []
+op_words (op.Load bits d p i) = codes "load" ∷ bits_text bits ∷ decimal d ∷ decimal p ∷ decimal i ∷ []
+op_words (op.Store bits p i s) = codes "store" ∷ bits_text bits ∷ decimal p ∷ decimal i ∷ decimal s ∷ []
+op_words (op.Get bits d k) = codes "get" ∷ bits_text bits ∷ decimal d ∷ decimal k ∷ []
+op_words (op.Put bits k s) = codes "put" ∷ bits_text bits ∷ decimal k ∷ decimal s ∷ []
+op_words (op.Clear k) = codes "clear" ∷ decimal k ∷ []
+op_words (op.Param d k) = codes "param" ∷ decimal d ∷ decimal k ∷ []
+op_words (op.Call d f arguments) = codes "call" ∷ if_any_text d ∷ decimal f ∷ map decimal arguments
+op_words (op.Putchar d s) = codes "putchar" ∷ decimal d ∷ decimal s ∷ []
+op_words (op.Getchar d) = codes "getchar" ∷ decimal d ∷ []
+op_words (op.Exit s) = codes "exit" ∷ decimal s ∷ []
+op_words (op.Same a b) = codes "same" ∷ decimal a ∷ decimal b ∷ []
+op_words (op.Mark s) = codes "mark" ∷ decimal s ∷ []
+op_words op.Turn = codes "turn" ∷ []
+op_words (op.Jump x) = codes "jump" ∷ decimal x ∷ []
+op_words (op.Branch how a b x y) = codes "branch" ∷ comparison_text how ∷ decimal a ∷ decimal b ∷ decimal x ∷ decimal y
+    ∷ []
+op_words (op.Return a) = codes "return" ∷ if_any_text a ∷ []
 
 -- ---- words
 

@@ -1,7 +1,7 @@
 //! Numbers and addresses in texts.
 
 ghost use Rattle.std.specs.Prelude.{◌≡◌, ◌++◌, ◌<◌, OnOk, decimal};
-ghost use Rattle.map_text.specs.Lines.{address_text, hexadecimal_digit};
+ghost use Rattle.map_text.specs.Words.{address_text, hexadecimal_digit};
 
 use itoa::Buffer;
 use pcc_base::NoMemory;

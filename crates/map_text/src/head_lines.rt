@@ -3,7 +3,6 @@
 
 ghost use Rattle.std.specs.Prelude.{◌≡◌, ◌∷◌, [], ◌++◌, OnOk, decimal};
 ghost use Rattle.pcc_base.specs.Ascii.{minus};
-ghost use Rattle.map_text.specs.Lines.{address_text, named_text, width_text};
 ghost use Rattle.map_text.specs.Views.{named_of};
 ghost use Rattle.map_text.specs.Words.{
   ArrayLine,
@@ -12,12 +11,15 @@ ghost use Rattle.map_text.specs.Words.{
   ObjectLine,
   TitleLine,
   VariableLine,
+  address_text,
   each_spaced,
   line_text,
+  named_text,
+  width_text,
 };
 
 use crate::digits::{push_address, push_number};
-use crate::lines::Named;
+use crate::names::Named;
 use crate::op_words::{push_next, push_word};
 use pcc_base::{Name, NoMemory, Width};
 

@@ -4,13 +4,6 @@ ghost use Rattle.std.specs.Prelude.{◌≡◌, ◌∷◌, []};
 ghost use Rattle.pcc_base.specs.Outcome.{InFrame, Static, Null, Unknown, Scalar, ArrayOf, IndexOf};
 ghost use Rattle.map_text.specs.Marks.{visits_of, listed};
 ghost use Rattle.map_text.specs.Worked.{worked_map, worked_state, worked_visit};
-ghost use Rattle.map_text.specs.Lines.{map_text};
-ghost use Rattle.map_text.specs.Maps.{IsMap, Map};
-
-/// A text is that of one map at most.
-pub fn one_map()
-    ensures { (a b : Map) → IsMap a → IsMap b → map_text a ≡ map_text b → a ≡ b }
-{}
 
 /// The definitions read a small state as a person would: a static object, an array of the frame at EIP,
 /// one of the caller's frame, none, and a word that is no array's address. Slots and registers are read as

@@ -3,8 +3,7 @@
 ghost use Rattle.std.specs.Prelude.{◌≡◌, ◌∷◌, [], ◌++◌, OnOk, decimal, flat_map};
 ghost use Rattle.std.specs.Fmt.{signed_decimal};
 ghost use Rattle.flow_graph.specs.declared.op.Op.TheVariants as op;
-ghost use Rattle.map_text.specs.Lines.{argument_text, bits_text, comparison_text, if_any_text, op_words};
-ghost use Rattle.map_text.specs.Words.{each_spaced};
+ghost use Rattle.map_text.specs.Words.{argument_text, bits_text, comparison_text, each_spaced, if_any_text, op_words};
 
 use crate::digits::push_number;
 use flow_graph::{Bits, Comparison, Op, Words};

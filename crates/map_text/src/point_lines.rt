@@ -4,7 +4,6 @@
 ghost use Rattle.std.specs.Prelude.{◌≡◌, ◌∷◌, [], ◌++◌, ℕ, ℤ, List, OnOk, codes, decimal, flat_map};
 ghost use Rattle.map_text.specs.Entries.{below, cells_place, place_of, standing_of, standings_of};
 ghost use Rattle.puzzle_board.specs.declared.piece.Columns.TheVariants.{All, High, Low};
-ghost use Rattle.map_text.specs.Lines.{place_text};
 ghost use Rattle.map_text.specs.Words.{
   AfterLine,
   BeforeLine,
@@ -17,6 +16,7 @@ ghost use Rattle.map_text.specs.Words.{
   kind_letter,
   line_text,
   piece_word,
+  place_text,
   standing_word,
   width_digit,
 };

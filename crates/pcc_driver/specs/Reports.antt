@@ -11,7 +11,7 @@ use Rattle.pcc_base.specs.declared.run.Trap.TheVariants.{Divide, Check}
 use Rattle.pcc_base.specs.declared.run.Stop.{Stop}
 use Rattle.pcc_base.specs.declared.run.Stop.TheVariants.{Instruction, Access, Flags, Call}
 use Rattle.c_lex.specs.Spellings.{keyword_text}
-use Rattle.map_text.specs.Lines.{address_text}
+use Rattle.map_text.specs.Words.{address_text}
 use Rattle.pcc_words.specs.Asked as commands
 use Rattle.pcc_words.specs.Asked.{map_name}
 use Rattle.pcc_driver.specs.declared.report.Named.{Named}

@@ -28,7 +28,7 @@ ghost use Rattle.pcc_driver.specs.Reports.{
   IsShownAs,
 };
 ghost use Rattle.pcc_words.specs.Words.{meaning};
-ghost use Rattle.map_text.specs.Lines.{address_text};
+ghost use Rattle.map_text.specs.Words.{address_text};
 
 use crate::report::{Named, Report};
 use c_lex::spelling;

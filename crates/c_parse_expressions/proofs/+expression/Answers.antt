@@ -3,13 +3,13 @@ use Rattle.std.proofs.Common.{◌<◌, ◌≤◌, ◌-◌, ℕ, ap, sym, ◌∙�
 use Rattle.std.proofs.lemmas.Result.{err_from_is_err_and}
 use Rattle.c_syntax.specs.Expressions.{expr_of, exprs_of}
 use Rattle.c_syntax.specs.ExpressionTokens.{expr_height, exprs_height}
-use Rattle.c_syntax.specs.Reading as reading
-use Rattle.c_syntax.specs.Reading.{readers, read_expression, read_assignment, read_conditional, read_binary}
-use Rattle.c_syntax.specs.Reading.{read_cast, read_unary, cast_behind}
-use Rattle.c_syntax.specs.Taking.{take_specifiers, take_pointer}
-use Rattle.c_syntax.proofs.Chains.{continues_goes}
-use Rattle.c_syntax.proofs.Reading.{expression_above, assignment_above, conditional_above}
-use Rattle.c_syntax.proofs.Reading.{binary_above, cast_above, unary_above}
+use Rattle.c_grammar.specs.Reading as reading
+use Rattle.c_grammar.specs.Reading.{readers, read_expression, read_assignment, read_conditional, read_binary}
+use Rattle.c_grammar.specs.Reading.{read_cast, read_unary, cast_behind}
+use Rattle.c_grammar.specs.Taking.{take_specifiers, take_pointer}
+use Rattle.c_grammar.proofs.Chains.{continues_goes}
+use Rattle.c_grammar.proofs.Reading.{expression_above, assignment_above, conditional_above}
+use Rattle.c_grammar.proofs.Reading.{binary_above, cast_above, unary_above}
 use Rattle.c_parse_expressions.proofs.Refused.{refused_turn, last_turn, refused_fault}
 use Rattle.c_parse_expressions.specs.Values.{values_of}
 use Rattle.c_parse_expressions.specs.ExpressionReadings.{reader_of, below}

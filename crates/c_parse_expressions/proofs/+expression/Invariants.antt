@@ -2,10 +2,10 @@
 use Rattle.std.proofs.Common.{◌≡◌, ◌<◌, ◌≤◌, Some, length, ◌-◌, ◌+◌, ◌*◌}
 use Rattle.c_syntax.specs.Expressions.{expr_of}
 use Rattle.c_syntax.specs.ExpressionTokens.{expr_height}
-use Rattle.c_syntax.specs.Chains.{chained}
-use Rattle.c_syntax.proofs.Chains.{Continues}
-use Rattle.c_syntax.specs.Reading.{read_expression, read_binary, read_postfix, read_arguments, infix_step}
-use Rattle.c_syntax.specs.Reading.{suffix_step, value_step}
+use Rattle.c_grammar.specs.Chains.{chained}
+use Rattle.c_grammar.proofs.Chains.{Continues}
+use Rattle.c_grammar.specs.Reading.{read_expression, read_binary, read_postfix, read_arguments, infix_step}
+use Rattle.c_grammar.specs.Reading.{suffix_step, value_step}
 use Rattle.c_parse_expressions.specs.ExpressionReadings.{below}
 use Rattle.c_parse_expressions.specs.Values.{values_of, height_of_values}
 use Rattle.c_parse_expressions.proofs.+expression.Given as goal

@@ -16,7 +16,7 @@ fn push_token(out: &mut Text, token: &Token) {
     match &token.kind {
         TokenKind::Word(word) => out.push_shown(word),
         TokenKind::Mark(mark) => out.push_shown(mark),
-        TokenKind::Number(number) => out.push_shown(number),
+        TokenKind::Number { value, .. } => out.push_shown(value),
         TokenKind::Ident(name) => out.push_name(name),
         TokenKind::Text(text) => {
             out.push("\"");

@@ -1,4 +1,4 @@
-use Rattle.std.proofs.Common.{ℕ, ℤ, Option, sym, subst}
+use Rattle.std.proofs.Common.{ℕ, ℤ, false, Option, sym, subst}
 use Rattle.c_lex.specs.declared.scanned.Scanned.{Scanned}
 use Rattle.c_lex.specs.declared.token.TokenKind.TheVariants as kinds
 use Rattle.c_lex.specs.Pieces.{Begins, Spelled}
@@ -20,5 +20,5 @@ returns c = λ fresh.
     let begins =
     number_begins fresh c.args.rest.now c.number_length-end.result found.0 number.within number.text number.longest
     found.1 in
-    subst (λ (z : ℤ). Begins fresh c.args.rest.now c.number_length-end.result (Spelled (kinds.Number z)))
+    subst (λ (z : ℤ). Begins fresh c.args.rest.now c.number_length-end.result (Spelled (kinds.Number z false)))
     (sym (signed_same c.in_ok-value.value found.0 found.1.1 found.2)) begins

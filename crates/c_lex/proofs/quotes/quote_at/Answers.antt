@@ -1,4 +1,4 @@
-use Rattle.std.proofs.Common.{◌≡◌, ◌≢◌, ◌+◌, ◌-◌, ◌⊎◌, inl, inr, ℕ, ℤ, List, [], ◌∷◌, length, take, drop, get_or, sym}
+use Rattle.std.proofs.Common.{◌≡◌, ◌≢◌, ◌+◌, ◌-◌, ◌⊎◌, inl, inr, ℕ, ℤ, false, List, [], ◌∷◌, length, take, drop, get_or, sym}
 use Rattle.std.proofs.Common.{◌∙◌, ap, subst, arith, Option, Some, MatchOption, Vec, Global}
 use Rattle.std.proofs.lemmas.Slice.{first_rest}
 use Rattle.std.specs.Int.{w32, cast_signed, cast_unsigned}
@@ -89,8 +89,8 @@ returns c fresh =
     let kept : cast_signed w32 (cast_unsigned w32 c.signed.result) ≡ c.signed.result =
     to_z-of_z w32 c.signed.result (omega (arith, ints)) in
     subst (λ (r : List ℕ). Begins fresh r (n + 2)
-    (Spelled (kinds.Number (cast_signed w32 (cast_unsigned w32 c.signed.result))))) (sym (whole rest c.requires))
-    (subst (λ (z : ℤ). Begins fresh (get_or rest 0 0 ∷ text_of rest) (n + 2) (Spelled (kinds.Number z)))
+    (Spelled (kinds.Number (cast_signed w32 (cast_unsigned w32 c.signed.result)) false))) (sym (whole rest c.requires))
+    (subst (λ (z : ℤ). Begins fresh (get_or rest 0 0 ∷ text_of rest) (n + 2) (Spelled (kinds.Number z false)))
     (sym (kept ∙ c.signed.ensures))
     (constant_begins fresh (get_or rest 0 0) (text_of rest) c.in-Some.values.items n value
     (char_quote (get_or rest 0 0) (quoted rest c.requires) c.if-quote-eq34.false) there one))

@@ -1,8 +1,8 @@
 -- What is read in all is what the turns from here read.
 use Rattle.std.proofs.Common.{◌≤◌, length, map}
 use Rattle.c_syntax.specs.Declarations.{parameter_of}
-use Rattle.c_syntax.proofs.Chains.{Continues}
-use Rattle.c_syntax.specs.DeclarationReading.{list_step, read_parameter, read_parameters}
+use Rattle.c_grammar.proofs.Chains.{Continues}
+use Rattle.c_grammar.specs.DeclarationReading.{list_step, read_parameter, read_parameters}
 use Rattle.c_parse_expressions.specs.ExpressionReadings.{below}
 use Rattle.c_parse.proofs.declarators.parameters.Given as goal
 

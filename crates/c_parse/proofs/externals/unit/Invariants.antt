@@ -1,8 +1,8 @@
 -- What is read in all is what the turns from here read.
 use Rattle.std.proofs.Common.{◌≤◌, length, map}
 use Rattle.c_syntax.specs.Statements.{external_of}
-use Rattle.c_syntax.proofs.Chains.{Continues}
-use Rattle.c_syntax.specs.StatementReading.{unit_step, read_unit}
+use Rattle.c_grammar.proofs.Chains.{Continues}
+use Rattle.c_grammar.specs.StatementReading.{unit_step, read_unit}
 use Rattle.c_parse.specs.StatementParts.{below_node}
 use Rattle.c_parse.proofs.externals.unit.Given as goal
 

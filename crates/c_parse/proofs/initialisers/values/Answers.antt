@@ -2,8 +2,8 @@ use Rattle.std.proofs.Common.{arith, ap, length}
 use Rattle.std.proofs.lemmas.Result.{err_from_is_err_and}
 use Rattle.c_syntax.specs.Expressions.{exprs_of}
 use Rattle.c_syntax.specs.ExpressionTokens.{exprs_height}
-use Rattle.c_syntax.specs.Reading as reading
-use Rattle.c_syntax.proofs.Chains.{continues_goes}
+use Rattle.c_grammar.specs.Reading as reading
+use Rattle.c_grammar.proofs.Chains.{continues_goes}
 use Rattle.c_parse_expressions.proofs.Refused.{refused_turn, last_turn}
 use Rattle.c_parse.proofs.initialisers.values.Goals as goal
 

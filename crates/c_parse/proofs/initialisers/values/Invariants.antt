@@ -1,7 +1,7 @@
 -- What is read in all is what the turns from here read.
 use Rattle.std.proofs.Common.{◌≡◌, ◌<◌, ◌≤◌, length}
-use Rattle.c_syntax.proofs.Chains.{Continues}
-use Rattle.c_syntax.specs.DeclarationReading.{brace_step}
+use Rattle.c_grammar.proofs.Chains.{Continues}
+use Rattle.c_grammar.specs.DeclarationReading.{brace_step}
 use Rattle.c_parse_expressions.specs.ExpressionReadings.{below}
 use Rattle.c_parse_expressions.specs.Values.{values_of, height_of_values}
 use Rattle.c_parse.specs.Braces.{read_values}

@@ -1,7 +1,7 @@
 use Rattle.std.proofs.Common.{map, arith}
 use Rattle.std.proofs.lemmas.Result.{err_from_is_err_and}
 use Rattle.c_syntax.specs.Statements.{label_of}
-use Rattle.c_syntax.specs.Reading.{readers}
+use Rattle.c_grammar.specs.Reading.{readers}
 use Rattle.c_parse_expressions.proofs.Refused.{refused_turn}
 use Rattle.c_parse.proofs.Rows.{label_more, label_last}
 use Rattle.c_parse.proofs.labels.take_labels.Goals as goal

@@ -1,9 +1,9 @@
 -- What is read in all is what the turns from here read.
 use Rattle.std.proofs.Common.{◌≤◌, length, map}
 use Rattle.c_syntax.specs.Statements.{label_of}
-use Rattle.c_syntax.proofs.Chains.{Continues}
-use Rattle.c_syntax.specs.StatementReading.{label_step, read_labels}
-use Rattle.c_syntax.specs.Reading.{readers}
+use Rattle.c_grammar.proofs.Chains.{Continues}
+use Rattle.c_grammar.specs.StatementReading.{label_step, read_labels}
+use Rattle.c_grammar.specs.Reading.{readers}
 use Rattle.c_parse.proofs.labels.take_labels.Given as goal
 
 abbrev pub invariant-labels : goal.invariant-labels

@@ -1,4 +1,4 @@
-use Rattle.c_syntax.specs.DeclarationReading.{read_declaration}
+use Rattle.c_grammar.specs.DeclarationReading.{read_declaration}
 use Rattle.c_syntax.specs.Declarations.{declaration_of}
 use Rattle.c_parse_expressions.specs.ExpressionReadings.{below}
 use Rattle.c_parse_expressions.proofs.Refused.{refused_fault}

@@ -2,10 +2,10 @@
 use Rattle.std.proofs.Common.{Some, refl, ap, sym, ◌∙◌, arith}
 use Rattle.std.proofs.lemmas.Result.{err_from_is_err_and}
 use Rattle.c_syntax.specs.Statements.{Declared}
-use Rattle.c_syntax.specs.Chains.{then_read}
-use Rattle.c_syntax.specs.DeclarationReading.{read_declaration}
+use Rattle.c_grammar.specs.Chains.{then_read}
+use Rattle.c_grammar.specs.DeclarationReading.{read_declaration}
 use Rattle.c_parse_expressions.specs.ExpressionReadings.{below}
-use Rattle.c_syntax.specs.StatementReading.{Below, read_statement, do_behind, switch_behind}
+use Rattle.c_grammar.specs.StatementReading.{Below, read_statement, do_behind, switch_behind}
 use Rattle.c_parse_expressions.proofs.Refused.{refused_then, refused_fault}
 use Rattle.c_parse.specs.StatementParts.{below_node, boxed_of, fields_of}
 use Rattle.c_parse.proofs.Below.{below_is, statement_reads, item_declared, item_stated, labelled_is}

@@ -1,8 +1,8 @@
 -- Each call is for a lower height, or for the same height and a smaller part.
 use Rattle.std.proofs.Common.{◌≤◌, length, map, ◌+◌, ◌*◌}
 use Rattle.c_syntax.specs.Statements.{stmt_of}
-use Rattle.c_syntax.proofs.Chains.{Continues}
-use Rattle.c_syntax.specs.StatementReading.{until_step, read_until}
+use Rattle.c_grammar.proofs.Chains.{Continues}
+use Rattle.c_grammar.specs.StatementReading.{until_step, read_until}
 use Rattle.c_parse.specs.StatementParts.{below_node, fields_of}
 use Rattle.c_parse.proofs.statements.+statement.Given as goal
 

@@ -1,4 +1,4 @@
-use Rattle.c_syntax.specs.StatementReading.{read_statement}
+use Rattle.c_grammar.specs.StatementReading.{read_statement}
 use Rattle.c_syntax.specs.Statements.{stmt_of}
 use Rattle.c_parse_expressions.proofs.Refused.{refused_fault}
 use Rattle.c_parse.specs.StatementParts.{below_node}

@@ -1,6 +1,6 @@
 use Rattle.std.proofs.Common.{arith}
 use Rattle.std.proofs.lemmas.Grind.{common_steps}
-use Rattle.c_syntax.proofs.Values.{exprs_height-push}
+use Rattle.c_grammar.proofs.Values.{exprs_height-push}
 use Rattle.c_parse_expressions.proofs.build.one_more.Goals as goal
 
 pub returns-clause-height : goal.returns-clause-height

@@ -15,7 +15,7 @@ emit_header-requires-clause-near c =
     let inside : i < length flow.arrays = search rules in
     let is : distance (to_z w32 (of_z w32 c.array_at.result)) ≡ slice_index_or belows i 0 = search rules in
     subst (λ (n : ℕ). n < 0x7ffffffc) (sym is)
-    (near-array flow c.args.site.now.frame belows i c.requires.inside c.requires.small inside)
+    (near-array flow c.args.site.now.map.now.frame belows i c.requires.inside c.requires.small inside)
 
 pub emit_header-requires-clause-few : goal.emit_header-requires-clause-few
 emit_header-requires-clause-few c =
@@ -23,5 +23,5 @@ emit_header-requires-clause-few c =
     let i : ℕ = c.loop-array.array in
     let inside : i < length flow.arrays = search rules in
     subst (λ (n : ℕ × ℕ). n.1 < 0x80000000) (sym c.array_of-count.ensures)
-    (few-elements flow c.args.site.now.frame (slots_of c.args.site.now.arrays.now) i c.requires.inside
+    (few-elements flow c.args.site.now.map.now.frame (slots_of c.args.site.now.arrays.now) i c.requires.inside
     c.is_flow.ensures.1.arrays_fit c.requires.small inside)

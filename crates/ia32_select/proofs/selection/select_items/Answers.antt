@@ -1,7 +1,7 @@
 use Rattle.std.proofs.Common.{ℕ, List, sym, subst}
 use Rattle.ia32_laws.specs.Supports.{AreArraysIn}
 use Rattle.ia32_placements.proofs.Frames.{are-arrays-in}
-use Rattle.ia32_select.specs.PlacedSites.{flow_of, places_of}
+use Rattle.ia32_select.specs.Sites.{flow_of, places_of}
 use Rattle.ia32_select.proofs.selection.select_items.Goals as goal
 
 pub emit_headers-requires-clause-inside : goal.emit_headers-requires-clause-inside

@@ -1,5 +1,5 @@
 use Rattle.std.proofs.Common.{◌≡◌, ◌-◌, ◌*◌, ◌/◌, ◌^◌, ◌++◌}
-use Rattle.map_text.specs.Lines.{hexadecimal}
+use Rattle.map_text.specs.Words.{hexadecimal}
 use Rattle.map_text.proofs.digits.push_address.Given as goal
 
 -- the digits so far are those of the number without the digits that are left

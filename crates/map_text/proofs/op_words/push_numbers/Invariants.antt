@@ -1,5 +1,5 @@
 use Rattle.std.proofs.Common.{◌≡◌, ◌++◌, flat_map, take}
-use Rattle.map_text.specs.Lines.{argument_text}
+use Rattle.map_text.specs.Words.{argument_text}
 use Rattle.map_text.proofs.op_words.push_numbers.Given as goal
 
 -- the numbers so far are there

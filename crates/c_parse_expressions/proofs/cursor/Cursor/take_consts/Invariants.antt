@@ -1,6 +1,6 @@
 -- The row of the beginning is what is taken and the row of what is left.
 use Rattle.std.proofs.Common.{◌≡◌, ◌≤◌, length}
-use Rattle.c_syntax.specs.Taking.{take_consts, prefixed}
+use Rattle.c_grammar.specs.Taking.{take_consts, prefixed}
 use Rattle.c_parse_expressions.proofs.cursor.Cursor.take_consts.Given as goal
 
 abbrev pub invariant-loop-at : goal.invariant-loop-at

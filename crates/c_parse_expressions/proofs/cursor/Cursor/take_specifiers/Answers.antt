@@ -1,5 +1,5 @@
 use Rattle.std.proofs.Common.{arith, ap, length, length-append, [], ◌∷◌}
-use Rattle.c_syntax.proofs.Rows.{prefixed_more, prefixed_end}
+use Rattle.c_grammar.proofs.Rows.{prefixed_more, prefixed_end}
 use Rattle.c_parse_expressions.proofs.cursor.Cursor.take_specifiers.Goals as goal
 
 pub loop-specifier-preserved : goal.loop-specifier-preserved

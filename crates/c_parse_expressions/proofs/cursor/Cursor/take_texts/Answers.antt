@@ -1,5 +1,5 @@
 use Rattle.std.proofs.Common.{arith}
-use Rattle.c_syntax.proofs.Rows.{prefixed_more, prefixed_end}
+use Rattle.c_grammar.proofs.Rows.{prefixed_more, prefixed_end}
 use Rattle.c_parse_expressions.proofs.cursor.Cursor.take_texts.Goals as goal
 
 pub loop-pieces-preserved : goal.loop-pieces-preserved

@@ -1,0 +1,57 @@
+-- Reading in a loop: from what was read so far, one step reads one part more, finds the end, or fails.
+use Rattle.std.proofs.Common.{◌≡◌, ℕ, zero, suc, ◌≤◌, ◌<◌, List, length, Some, None, refl, ◌∙◌, arith}
+use Rattle.c_lex.specs.declared.token.Token.{Token}
+use Rattle.c_grammar.specs.Chains.{Done, Fails, Goes, Reads, Step, chain, chained, then_read}
+
+-- what is read in all is what the steps from here read
+pub record Continues {A : Type 0} (step : A → List Token → Step A) (a : A) (ts : List Token) (out : Reads A) : Type 0
+  where
+    pub fuel : ℕ
+    pub enough : length ts ≤ fuel
+    pub is : out ≡ chain step fuel a ts
+
+pub continues_start : {A : Type 0} (step : A → List Token → Step A) (a : A) (ts : List Token)
+    → Continues step a ts (chain step (length ts) a ts)
+continues_start step a ts = record { fuel = length ts; enough = omega arith; is = refl }
+
+chain-done : {A : Type 0} (step : A → List Token → Step A) (n : ℕ) (a : A) (ts : List Token) → step a ts ≡ Done
+    → chain step n a ts ≡ Some (a, ts)
+unfolding chain
+chain-done step zero a ts e = rw e refl
+chain-done step (suc n) a ts e = rw e refl
+
+chain-fails : {A : Type 0} (step : A → List Token → Step A) (n : ℕ) (a : A) (ts : List Token) → step a ts ≡ Fails
+    → chain step n a ts ≡ None
+unfolding chain
+chain-fails step zero a ts e = rw e refl
+chain-fails step (suc n) a ts e = rw e refl
+
+chain-goes : {A : Type 0} (step : A → List Token → Step A) (n : ℕ) (a b : A) (ts rest : List Token) → step a ts
+    ≡ Goes b rest → chain step (suc n) a ts ≡ chain step n b rest
+unfolding chain
+chain-goes step n a b ts rest e = rw e refl
+
+pub continues_done : {A : Type 0} (step : A → List Token → Step A) (a : A) (ts : List Token) (out : Reads A)
+    → Continues step a ts out → step a ts ≡ Done → out ≡ Some (a, ts)
+continues_done step a ts out c e = c.is ∙ chain-done step c.fuel a ts e
+
+pub continues_fails : {A : Type 0} (step : A → List Token → Step A) (a : A) (ts : List Token) (out : Reads A)
+    → Continues step a ts out → step a ts ≡ Fails → out ≡ None
+continues_fails step a ts out c e = c.is ∙ chain-fails step c.fuel a ts e
+
+goes_on : {A : Type 0} (step : A → List Token → Step A) (n : ℕ) (a b : A) (ts rest : List Token) (out : Reads A)
+    → length ts ≤ n → out ≡ chain step n a ts → step a ts ≡ Goes b rest → length rest < length ts
+    → Continues step b rest out
+goes_on step zero a b ts rest out enough is e less = absurd (omega arith)
+goes_on step (suc n) a b ts rest out enough is e less =
+    record { fuel = n; enough = omega arith; is = is ∙ chain-goes step n a b ts rest e }
+
+pub continues_goes : {A : Type 0} (step : A → List Token → Step A) (a b : A) (ts rest : List Token) (out : Reads A)
+    → Continues step a ts out → step a ts ≡ Goes b rest → length rest < length ts → Continues step b rest out
+continues_goes step a b ts rest out c e less = goes_on step c.fuel a b ts rest out c.enough c.is e less
+
+-- a first part, and a chain behind it
+pub continues_from : {A : Type 0} (step : A → List Token → Step A) (reads : Reads A) (a : A) (ts : List Token) → reads
+    ≡ Some (a, ts) → Continues step a ts (then_read reads (chained step))
+continues_from step reads a ts e = (let f : then_read reads (chained step) ≡ chain step (length ts) a ts = rw e refl in
+    record { fuel = length ts; enough = omega arith; is = f })

@@ -1,0 +1,15 @@
+pub mod Chains
+pub mod Rows
+pub mod Reading
+pub mod Stops
+pub mod Heads
+pub mod Complete
+pub mod Values
+pub mod DeclarationComplete
+pub mod StatementReading
+pub mod StatementComplete
+pub mod Sound
+pub mod SoundDeclarations
+pub mod SoundStatements
+pub mod OneFault
+pub mod WorkedFaults
