@@ -4,6 +4,7 @@ What is known of instructions is the Intel manual's, volume 2, for those of the 
 `exit`, `read` and `write`. `Machine.paths` goes through code from an address on, along both ways of each jump that isn't decided.
 """
 import copy
+import functools
 import struct
 from dataclasses import dataclass, field
 
@@ -77,7 +78,7 @@ def named(it, first):
     if 0x58 <= first < 0x60:
         return "pop", first & 7
     if first & 0xF0 == 0xB0:
-        return ("mov", ("register", first & 7), ("number", it.number(4))) if first & 8 else ("mov8", ("register", first & 7), ("number", it.number(1)))
+        return "mov" if first & 8 else "mov8", ("register", first & 7), ("number", it.number(4 if first & 8 else 1))
     if first & 0xF0 == 0x70:
         return "jcc", first & 15, it.number(1)
     if first in SIMPLE:
@@ -237,12 +238,15 @@ class Machine:
                 state.steps += 1
                 name, operands, behind = self.instructions[state.eip]
                 state.eip = behind
-                other = getattr(self, f"do_{name}")(state, *operands)
+                other = getattr(self, f"do_{name}", self.others)(state, *operands)
                 if other:
                     waiting.append(other)
             watch(state)
             found.append(state)
         return found
+
+    def others(self, state, *operands):
+        raise Fault("DIV, or MOVZX of 16 bits")
 
     def address(self, state, operand):
         _, base, index, scale, distance = operand
@@ -288,9 +292,6 @@ class Machine:
     def do_movsx16(self, state, to, source):
         state.registers[to] = terms.sign_extended_half(self.get(state, source, 16))
 
-    def do_movzx16(self, state, to, source):
-        raise Fault("MOVZX of 16 bits")
-
     def do_xchg(self, state, first, second, bits=32):
         one, two = self.get(state, first, bits), self.get(state, second, bits)
         self.put(state, first, two, bits)
@@ -302,25 +303,16 @@ class Machine:
     def do_lea(self, state, to, source):
         self.put(state, to, self.address(state, source))
 
-    def alu(self, state, name, to, source):
+    def alu(self, name, state, to, source):
         first, second = self.get(state, to), self.get(state, source)
         state.flags = (first, second) if name == "sub" else None
         self.put(state, to, terms.computed(name, first, second))
 
-    def do_add(self, state, to, source):
-        self.alu(state, "add", to, source)
-
-    def do_sub(self, state, to, source):
-        self.alu(state, "sub", to, source)
-
-    def do_and(self, state, to, source):
-        self.alu(state, "and", to, source)
-
-    def do_or(self, state, to, source):
-        self.alu(state, "or", to, source)
-
-    def do_xor(self, state, to, source):
-        self.alu(state, "xor", to, source)
+    do_add = functools.partialmethod(alu, "add")
+    do_sub = functools.partialmethod(alu, "sub")
+    do_and = functools.partialmethod(alu, "and")
+    do_or = functools.partialmethod(alu, "or")
+    do_xor = functools.partialmethod(alu, "xor")
 
     def do_cmp(self, state, first, second):
         state.flags = self.get(state, first), self.get(state, second)
@@ -339,25 +331,17 @@ class Machine:
     def do_not(self, state, to):
         self.put(state, to, terms.complement(self.get(state, to)))
 
-    def shift(self, state, name, to, count):
+    def shift(self, name, state, to, count):
         by = state.byte_register(ECX) if count == ("count",) else count[1] & 0xFF
         self.put(state, to, (name, self.get(state, to), by))
         state.flags = None
 
-    def do_shl(self, state, to, count):
-        self.shift(state, "shl", to, count)
-
-    def do_shr(self, state, to, count):
-        self.shift(state, "shr", to, count)
-
-    def do_sar(self, state, to, count):
-        self.shift(state, "sar", to, count)
+    do_shl = functools.partialmethod(shift, "shl")
+    do_shr = functools.partialmethod(shift, "shr")
+    do_sar = functools.partialmethod(shift, "sar")
 
     def do_cdq(self, state):
         state.registers[EDX] = ("sign", state.registers[EAX])
-
-    def do_div(self, state, source):
-        raise Fault("DIV")
 
     def do_idiv(self, state, source):
         first, second = state.registers[EAX], self.get(state, source)

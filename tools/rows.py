@@ -11,6 +11,8 @@ from machine import FRAME, Machine, State
 from terms import byte, computed, plus
 
 RESULT, INPUT = ("result",), ("input",)
+# Where a frame keeps the caller's registers.
+KEPT = ((0, machine.EBP), (-4, machine.EBX), (-8, machine.ESI), (-12, machine.EDI))
 
 
 class Untrue(Exception):
@@ -212,8 +214,9 @@ class Rows:
 
     def check_frame(self, f, state):
         registers = state.registers
-        check(registers[machine.EBP] == FRAME and registers[machine.ESP] == plus(FRAME, -f.frame), f.line, "the code makes another frame")
-        for offset, number in ((0, machine.EBP), (-4, machine.EBX), (-8, machine.ESI), (-12, machine.EDI)):
+        is_frame = registers[machine.EBP] == FRAME and registers[machine.ESP] == plus(FRAME, -f.frame)
+        check(is_frame, f.line, "the code makes another frame")
+        for offset, number in KEPT:
             check(state.cell(offset) == ("kept", machine.NAMES[number]), f.line, f"the code doesn't keep {machine.NAMES[number]}")
         for k, (offset, count, _) in enumerate(f.arrays):
             check(state.cell(offset - 4) == count, f.line + 1 + k, f"array {k} hasn't {count} elements in the code")
@@ -224,8 +227,8 @@ class Rows:
         ends = self.machine.paths(state, self.points)
         main = [f.number for f in self.map.functions if f.name == "main"]
         calls = [it for it in ends[0].events if it[0] == "call"]
-        check(len(ends) == 1 and len(main) == 1 and calls == [("call", main[0])] and ends[0].events[-1] == ("exit", RESULT), 1,
-              "the code doesn't begin with main")
+        is_main = len(ends) == 1 and len(main) == 1 and calls == [("call", main[0])] and ends[0].events[-1] == ("exit", RESULT)
+        check(is_main, 1, "the code doesn't begin with main")
         counted = [address for address, stored in ends[0].outside.items() if stored == (32, 1)]
         check(len(counted) == 1, 1, "the code doesn't count main as the first call")
         self.map.depth = counted[0]
@@ -266,22 +269,30 @@ class Rows:
 
     def check_left(self, point, path, meaning):
         """The end of a return or an exit."""
-        check(path.end == ("ret" if point.op.name == "return" else "exit") and path.events == meaning.events, point.line, "its code ends otherwise")
+        end = "ret" if point.op.name == "return" else "exit"
+        check(path.end == end and path.events == meaning.events, point.line, "its code ends otherwise")
         if path.end == "exit":
             return
-        kept = ((machine.EBP, ("cell", 0)), (machine.EBX, ("cell", -4)), (machine.ESI, ("cell", -8)), (machine.EDI, ("cell", -12)), (machine.ESP, plus(FRAME, 8)))
-        check(all(path.registers[number] == term for number, term in kept), point.line, "its code doesn't restore the registers")
-        check(not point.op.reads or path.registers[machine.EAX] == ("variable", point.op.reads[0]), point.line, "its code returns another value")
+        for offset, number in KEPT:
+            check(path.registers[number] == ("cell", offset), point.line, f"its code doesn't restore {machine.NAMES[number]}")
+        check(path.registers[machine.ESP] == plus(FRAME, 8), point.line, "its code doesn't restore esp")
+        value = path.registers[machine.EAX]
+        check(not point.op.reads or value == ("variable", point.op.reads[0]), point.line, "its code returns another value")
 
     def check_kept(self, f, point, path, meaning):
         """Nothing of memory has changed but slots, the word of scratch and what the op stores."""
         registers = path.registers
-        check(registers[machine.EBP] == FRAME and registers[machine.ESP] == plus(FRAME, -f.frame), point.line, "its code leaves another frame")
-        stored = {address: it for address, it in path.outside.items() if it != (32, ("memory", 32, address))}
-        check(stored == {address: it for address, it in meaning.stored.items() if it != (32, ("memory", 32, address))}, point.line, "its code stores otherwise")
+        is_frame = registers[machine.EBP] == FRAME and registers[machine.ESP] == plus(FRAME, -f.frame)
+        check(is_frame, point.line, "its code leaves another frame")
+
+        def changed_of(stored):
+            return {address: it for address, it in stored.items() if it != (32, ("memory", 32, address))}
+
+        check(changed_of(path.outside) == changed_of(meaning.stored), point.line, "its code stores otherwise")
         slots = len({v for p in f.points() for v in p.spilled})
         own = set(range(-20 - 4 * (slots - 1), -15, 4)) if slots else {-16}
-        changed = {offset: it for offset, it in path.frame.items() if offset >= -f.frame and offset not in own and it != ("cell", offset)}
+        frame = {offset: it for offset, it in path.frame.items() if offset >= -f.frame and offset not in own}
+        changed = {offset: it for offset, it in frame.items() if it != ("cell", offset)}
         check(changed == meaning.cleared, point.line, "its code changes other words of the frame")
 
 

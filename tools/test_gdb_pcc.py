@@ -44,11 +44,14 @@ class Debugging(unittest.TestCase):
 
     def test_locals_and_places(self):
         at, inner = line_of("if (got == 't')"), line_of("total += a[k]")
-        said = self.debug("x", f"pcc-break debugged.c:{at - 1}", "RUN", "pcc-where", "pcc-locals", f"pcc-break debugged.c:{inner}", "continue", "continue", "continue", "pcc-where", "pcc-locals")
+        first = [f"pcc-break debugged.c:{at - 1}", "RUN", "pcc-where", "pcc-locals"]
+        then = [f"pcc-break debugged.c:{inner}", "continue", "continue", "continue", "pcc-where", "pcc-locals"]
+        said = self.debug("x", *first, *then)
         where = next(k for k, row in enumerate(said) if row.startswith("main, point"))
         self.assertRegex(said[where - 1], rf"statement \d+ of main, debugged.c:{at}, at 0x0804")
         self.assertRegex(said[where], rf"main, point \d+, statement \d+, {re.escape(SOURCE)}:{at}$")
-        self.assertEqual(said[where + 1:where + 8], ["none = null", "c = -7", "s = -300", "big = -2000000000", "second = d1.0[1]", "last = o0[3]", "got = 120"])
+        values = ["none = null", "c = -7", "s = -300", "big = -2000000000", "second = d1.0[1]", "last = o0[3]", "got = 120"]
+        self.assertEqual(said[where + 1:where + 8], values)
         self.assertRegex(said[where + 8], rf"statement \d+ of sum, debugged.c:{inner}, at")
         behind = next(k for k, row in enumerate(said) if row.startswith("sum, point"))
         self.assertRegex(said[behind], rf"sum, point \d+, statement \d+, {re.escape(SOURCE)}:{inner}$")
