@@ -260,7 +260,8 @@ source-on : (program : Program) (graphs : GraphProgram) (listing : Listing) (inp
     → KeepsOutcome program graphs → ListsLocals program listing
     → IsNoStop (source_outcome program listing input turns).end
 source-on program graphs listing input turns keeps lists =
-    graphs-on graphs (variables_shown program listing) input turns _ (keeps listing lists input turns)
+    graphs-on graphs (variables_shown program listing) input turns (source_outcome program listing input turns)
+    (keeps listing lists input turns)
 
 -- Where the image stops, it has stopped after as many steps as have the outcome of so many turns.
 pub images-never-stop : MapListsLocals → ImagesNeverStop
