@@ -188,7 +188,7 @@ sound_if n b sb at ts =
   where
     under : (k : Condition) (us : List Token) → SoundCondition n ts k us → (s : Stmt) (vs : List Token)
         → SoundStmt IsPlain n us s vs → (o : Takes Span) → take_word words.Else vs ≡ o
-        → Holds (λ at ws. vs ≡ word words.Else at ∷ ws) o →
+        → HoldsTaken (λ at ws. vs ≡ word words.Else at ∷ ws) o →
         Holds (PlainStmt n (word words.If at ∷ ts)) (else_from b at k s o vs)
     under k us f s vs g None e h =
         record {
