@@ -4,3 +4,4 @@ pub mod Heads
 pub mod Reading
 pub mod DeclarationReading
 pub mod StatementReading
+pub mod Laws
