@@ -9,3 +9,5 @@ pub mod Sound
 pub mod SoundDeclarations
 pub mod SoundStatements
 pub mod Prompt
+pub mod PromptTokens
+pub mod PromptExpressions

@@ -1,4 +1,4 @@
-use Rattle.c_fault_places.proofs.Prompt.{prompt_chained}
+use Rattle.c_fault_places.proofs.PromptExpressions.{readers_prompt}
 use Rattle.c_fault_places.proofs.laws.readings_are_prompt.Goals as goal
 
 pub returns : goal.returns
