@@ -11,3 +11,5 @@ pub mod SoundStatements
 pub mod Prompt
 pub mod PromptTokens
 pub mod PromptExpressions
+pub mod PromptDeclarations
+pub mod PromptStatements

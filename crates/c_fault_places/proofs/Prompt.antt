@@ -307,7 +307,7 @@ pub step_same : {A : Type 0} (r q : List Token → Step A) → ((xs : List Token
     → PromptStep r
 step_same r q e p ts = step_alike r q ts (λ xs s. e xs) (p ts)
 
-step_token : {A : Type 0} (r q : List Token → Step A) (t : Token) (us : List Token)
+pub step_token : {A : Type 0} (r q : List Token → Step A) (t : Token) (us : List Token)
     → ((xs : List Token) → r (t ∷ xs) ≡ q (t ∷ xs)) → KeptStep q (t ∷ us) (q (t ∷ us))
     → KeptStep r (t ∷ us) (r (t ∷ us))
 step_token r q t us e p = step_alike r q (t ∷ us) all p
@@ -316,7 +316,7 @@ step_token r q t us e p = step_alike r q (t ∷ us) all p
     all [] s = absurd s
     all (v ∷ w) s = subst (λ x. r (x ∷ w) ≡ q (x ∷ w)) s (e w)
 
-step_nothing : {A : Type 0} (r q : List Token → Step A) → r [] ≡ q [] → KeptStep q [] (q []) → KeptStep r [] (r [])
+pub step_nothing : {A : Type 0} (r q : List Token → Step A) → r [] ≡ q [] → KeptStep q [] (q []) → KeptStep r [] (r [])
 step_nothing r q e p = step_alike r q [] all p
   where
     all : (xs : List Token) → Same [] xs → r xs ≡ q xs
