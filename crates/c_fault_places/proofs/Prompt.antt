@@ -27,16 +27,20 @@ faults_prompt deep ts = ([], refl, λ w s. refl)
 behind : {A B : Type 0} (r : List Token → Reads A) (f : A → List Token → Reads B) (ts us : List Token) (a : A)
     (took : List Token) → (ts ≡ took ++ us) → ((w : List Token) → Same us w → r (took ++ w) ≡ Found a w)
     → (out : Reads B) → Kept (f a) us out → Kept (λ xs. then_read (r xs) f) ts out
-behind r f ts us a took e same (Found b vs) k =
-    (took ++ k.0, e ∙ (ap (λ x. took ++ x) k.1 ∙ sym (append_assoc took k.0 vs)),
-    λ w s. ap (λ x. then_read (r x) f) (append_assoc took k.0 w)
-    ∙ (ap (λ o. then_read o f) (same (k.0 ++ w) (subst (λ x. Same x (k.0 ++ w)) (sym k.1) (same_behind k.0 vs w s)))
-    ∙ k.2 w s))
-behind r f ts us a took e same (Faults d vs) k =
-    (took ++ k.0, e ∙ (ap (λ x. took ++ x) k.1 ∙ sym (append_assoc took k.0 vs)),
-    λ w s. ap (λ x. then_read (r x) f) (append_assoc took k.0 w)
-    ∙ (ap (λ o. then_read o f) (same (k.0 ++ w) (subst (λ x. Same x (k.0 ++ w)) (sym k.1) (same_behind k.0 vs w s)))
-    ∙ k.2 w s))
+behind r f ts us a took e same (Found b vs) k = (
+  took ++ k.0,
+  e ∙ (ap (λ x. took ++ x) k.1 ∙ sym (append_assoc took k.0 vs)),
+  λ w s. ap (λ x. then_read (r x) f) (append_assoc took k.0 w)
+      ∙ (ap (λ o. then_read o f) (same (k.0 ++ w) (subst (λ x. Same x (k.0 ++ w)) (sym k.1) (same_behind k.0 vs w s)))
+      ∙ k.2 w s),
+)
+behind r f ts us a took e same (Faults d vs) k = (
+  took ++ k.0,
+  e ∙ (ap (λ x. took ++ x) k.1 ∙ sym (append_assoc took k.0 vs)),
+  λ w s. ap (λ x. then_read (r x) f) (append_assoc took k.0 w)
+      ∙ (ap (λ o. then_read o f) (same (k.0 ++ w) (subst (λ x. Same x (k.0 ++ w)) (sym k.1) (same_behind k.0 vs w s)))
+      ∙ k.2 w s),
+)
 
 then_kept : {A B : Type 0} (r : List Token → Reads A) (f : A → List Token → Reads B) (ts : List Token) (out : Reads A)
     → Kept r ts out → ((a : A) → Prompt (f a)) → Kept (λ xs. then_read (r xs) f) ts (then_read out f)
@@ -51,10 +55,18 @@ prompt_then r f pr pf ts = then_kept r f ts (r ts) (pr ts) pf
 
 alike_out : {A : Type 0} (r q : List Token → Reads A) (ts : List Token)
     → ((xs : List Token) → Same ts xs → r xs ≡ q xs) → (out : Reads A) → Kept q ts out → Kept r ts out
-alike_out r q ts e (Found a us) k = (k.0, k.1, λ w s.
-    e (k.0 ++ w) (subst (λ x. Same x (k.0 ++ w)) (sym k.1) (same_behind k.0 us w s)) ∙ k.2 w s)
-alike_out r q ts e (Faults d us) k = (k.0, k.1, λ w s.
-    e (k.0 ++ w) (subst (λ x. Same x (k.0 ++ w)) (sym k.1) (same_behind k.0 us w s)) ∙ k.2 w s)
+alike_out r q ts e (Found a us) k = (
+  k.0,
+  k.1,
+  λ w s.
+      e (k.0 ++ w) (subst (λ x. Same x (k.0 ++ w)) (sym k.1) (same_behind k.0 us w s)) ∙ k.2 w s,
+)
+alike_out r q ts e (Faults d us) k = (
+  k.0,
+  k.1,
+  λ w s.
+      e (k.0 ++ w) (subst (λ x. Same x (k.0 ++ w)) (sym k.1) (same_behind k.0 us w s)) ∙ k.2 w s,
+)
 
 -- what another reading reads, wherever the next token is the same
 pub kept_alike : {A : Type 0} (r q : List Token → Reads A) (ts : List Token)
@@ -294,10 +306,19 @@ step_fails deep ts = ([], refl, λ w s. refl)
 alike_step : {A : Type 0} (r q : List Token → Step A) (ts : List Token)
     → ((xs : List Token) → Same ts xs → r xs ≡ q xs) → (out : Step A) → KeptStep q ts out → KeptStep r ts out
 alike_step r q ts e Done k = (λ w s. e w s ∙ k w s)
-alike_step r q ts e (Fails d us) k = (k.0, k.1, λ w s.
-    e (k.0 ++ w) (subst (λ x. Same x (k.0 ++ w)) (sym k.1) (same_behind k.0 us w s)) ∙ k.2 w s)
-alike_step r q ts e (Goes a us) k = (k.0, k.1, k.2, λ w s.
-    e (k.0 ++ w) (subst (λ x. Same x (k.0 ++ w)) (sym k.1) (same_behind k.0 us w s)) ∙ k.3 w s)
+alike_step r q ts e (Fails d us) k = (
+  k.0,
+  k.1,
+  λ w s.
+      e (k.0 ++ w) (subst (λ x. Same x (k.0 ++ w)) (sym k.1) (same_behind k.0 us w s)) ∙ k.2 w s,
+)
+alike_step r q ts e (Goes a us) k = (
+  k.0,
+  k.1,
+  k.2,
+  λ w s.
+      e (k.0 ++ w) (subst (λ x. Same x (k.0 ++ w)) (sym k.1) (same_behind k.0 us w s)) ∙ k.3 w s,
+)
 
 step_alike : {A : Type 0} (r q : List Token → Step A) (ts : List Token)
     → ((xs : List Token) → Same ts xs → r xs ≡ q xs) → KeptStep q ts (q ts) → KeptStep r ts (r ts)
@@ -386,7 +407,6 @@ KeptChain step a ts (Faults d us) = (took : List Token) × (ts ≡ took ++ us)
     × ((w : List Token) → Same us w → (m : ℕ) → length (took ++ w) ≤ m → chain step m a (took ++ w) ≡ Faults d w)
 
 module _ {A : Type 0} (step : A → List Token → Step A) (prompt : (a : A) → PromptStep (step a)) where
-
   ends : (a : A) (w : List Token) (out : Reads A) (o : Step A) → step a w ≡ o
       → ((next : A → List Token → Reads A) → chain_on o next a w ≡ out) → (m : ℕ) → chain step m a w ≡ out
   unfolding chain
@@ -403,18 +423,22 @@ module _ {A : Type 0} (step : A → List Token → Step A) (prompt : (a : A) →
   chain_more : (a b : A) (ts us took : List Token) → (ts ≡ took ++ us) → 0 < length took
       → ((w : List Token) → Same us w → step a (took ++ w) ≡ Goes b w)
       → (out : Reads A) → KeptChain step b us out → KeptChain step a ts out
-  chain_more a b ts us took e some same (Found c vs) k =
-      (took ++ k.0, e ∙ (ap (λ x. took ++ x) k.1 ∙ sym (append_assoc took k.0 vs)),
-      λ w s. subst (λ x. (m : ℕ) → length x ≤ m → chain step m a x ≡ Found c w) (sym (append_assoc took k.0 w))
-      (goes a b (took ++ (k.0 ++ w)) (k.0 ++ w) (Found c w)
-      (same (k.0 ++ w) (subst (λ x. Same x (k.0 ++ w)) (sym k.1) (same_behind k.0 vs w s)))
-      (omega (arith, length-append took (k.0 ++ w))) (k.2 w s)))
-  chain_more a b ts us took e some same (Faults c vs) k =
-      (took ++ k.0, e ∙ (ap (λ x. took ++ x) k.1 ∙ sym (append_assoc took k.0 vs)),
-      λ w s. subst (λ x. (m : ℕ) → length x ≤ m → chain step m a x ≡ Faults c w) (sym (append_assoc took k.0 w))
-      (goes a b (took ++ (k.0 ++ w)) (k.0 ++ w) (Faults c w)
-      (same (k.0 ++ w) (subst (λ x. Same x (k.0 ++ w)) (sym k.1) (same_behind k.0 vs w s)))
-      (omega (arith, length-append took (k.0 ++ w))) (k.2 w s)))
+  chain_more a b ts us took e some same (Found c vs) k = (
+    took ++ k.0,
+    e ∙ (ap (λ x. took ++ x) k.1 ∙ sym (append_assoc took k.0 vs)),
+    λ w s. subst (λ x. (m : ℕ) → length x ≤ m → chain step m a x ≡ Found c w) (sym (append_assoc took k.0 w))
+        (goes a b (took ++ (k.0 ++ w)) (k.0 ++ w) (Found c w)
+        (same (k.0 ++ w) (subst (λ x. Same x (k.0 ++ w)) (sym k.1) (same_behind k.0 vs w s)))
+        (omega (arith, length-append took (k.0 ++ w))) (k.2 w s)),
+  )
+  chain_more a b ts us took e some same (Faults c vs) k = (
+    took ++ k.0,
+    e ∙ (ap (λ x. took ++ x) k.1 ∙ sym (append_assoc took k.0 vs)),
+    λ w s. subst (λ x. (m : ℕ) → length x ≤ m → chain step m a x ≡ Faults c w) (sym (append_assoc took k.0 w))
+        (goes a b (took ++ (k.0 ++ w)) (k.0 ++ w) (Faults c w)
+        (same (k.0 ++ w) (subst (λ x. Same x (k.0 ++ w)) (sym k.1) (same_behind k.0 vs w s)))
+        (omega (arith, length-append took (k.0 ++ w))) (k.2 w s)),
+  )
 
   from : (a : A) (ts : List Token) (next : A → List Token → Reads A)
       → ((b : A) (us : List Token) → length us < length ts → KeptChain step b us (next b us))

@@ -334,6 +334,7 @@ external_behind_prompt b p ss d = by (has_parameters d.part)
     declared : Prompt (λ ts. then_read (declaration_behind b.exprs ss d ts) (λ x us. Found (DeclaredTree x) us))
     declared = prompt_then (declaration_behind b.exprs ss d) (λ x us. Found (DeclaredTree x) us)
         (declaration_behind_prompt b.exprs p.exprs ss d) (λ x. found_prompt (DeclaredTree x))
+
     by : (x : Bool) → Prompt (λ ts. external_from b ss d x (take_mark marks.LeftBrace ts) ts)
     by true = prompt_unless (mark marks.LeftBrace) (take_mark marks.LeftBrace) (mark_single marks.LeftBrace)
         (external_from b ss d true) (λ ts. then_read (b.statement ts) (λ s us. Found (FunctionTree ss d s) us)) declared
@@ -349,6 +350,7 @@ external_behind_eats b p ss d ts = by (has_parameters d.part) (take_mark marks.L
     declared : Eaten ts (then_read (declaration_behind b.exprs ss d ts) (λ x us. Found (DeclaredTree x) us))
     declared = eats_first (declaration_behind b.exprs ss d) (λ x us. Found (DeclaredTree x) us)
         (declaration_behind_eats b.exprs p.exprs ss d) (λ x. found_prompt (DeclaredTree x)) ts
+
     by : (x : Bool) (o : Takes Span) → Eaten ts (external_from b ss d x o ts)
     by true (Some (o, us)) = eats_first b.statement (λ s us. Found (FunctionTree ss d s) us) p.statement_eats
         (λ s. found_prompt (FunctionTree ss d s)) ts

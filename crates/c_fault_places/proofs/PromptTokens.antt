@@ -50,6 +50,7 @@ single {K} spell take n h look e = record { nothing = n; token = λ t. under t (
   where
     is : (t : Token) (k : K) → look t ≡ Some k → t ∷ [] ≡ spell k ∷ []
     is t k l = subst (λ o. HoldsTaken (λ x us. t ∷ [] ≡ spell x ∷ us) o) (e t [] ∙ ap (λ o. given o []) l) (h (t ∷ []))
+
     under : (t : Token) (o : Option K) → look t ≡ o → Fitting K spell take t
     under t None l = Misses (λ us. e t us ∙ ap (λ o. given o us) l)
     under t (Some k) l = Fits k (ap (first t) (is t k l)) (λ us. e t us ∙ ap (λ o. given o us) l)
