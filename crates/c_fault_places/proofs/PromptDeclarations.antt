@@ -1,5 +1,5 @@
 -- The readings of declarations are prompt.
-use Rattle.std.proofs.Common.{◌≡◌, ℕ, false, List, [], ◌∷◌, ◌++◌, Option, Some, None, refl}
+use Rattle.std.proofs.Common.{◌≡◌, false, List, [], ◌∷◌, ◌++◌, Option, Some, None, refl}
 use Rattle.pcc_base.specs.declared.span.Span.{Span}
 use Rattle.c_lex.specs.declared.token.Token.{Token}
 use Rattle.c_lex.specs.declared.token.Punct.{Punct}
@@ -7,12 +7,12 @@ use Rattle.c_lex.specs.declared.token.Punct.TheVariants as marks
 use Rattle.c_syntax.specs.declared.expression.Identifier.{Identifier as Ident}
 use Rattle.c_syntax.specs.declared.expression.Specifier.{Specifier}
 use Rattle.c_syntax.specs.Marks.{mark}
-use Rattle.c_syntax.specs.Expressions.{Star, Expr, exprs_of}
-use Rattle.c_syntax.specs.Declarations.{ArrayTree, ParameterTree, ParametersTree, PartTree, Plain, Array, Function}
-use Rattle.c_syntax.specs.Declarations.{DeclaratorTree, InitialiserTree, Single as SingleValue, Braces, ValueTree, ItemTree}
+use Rattle.c_syntax.specs.Expressions.{Star, exprs_of}
+use Rattle.c_syntax.specs.Declarations.{ParameterTree, Plain, Array, Function}
+use Rattle.c_syntax.specs.Declarations.{DeclaratorTree, Single as SingleValue, Braces, ItemTree}
 use Rattle.c_syntax.specs.Declarations.{DeclarationTree}
 use Rattle.c_grammar.specs.Taking.{take_mark, take_specifiers, take_pointer}
-use Rattle.c_fault_places.specs.Chains.{Step, Takes, Reads, Found, Faults, then_read, chained}
+use Rattle.c_fault_places.specs.Chains.{Takes, Reads, Found, then_read, chained}
 use Rattle.c_fault_places.specs.Taking.{read_mark}
 use Rattle.c_fault_places.specs.Reading.{Reader, Readers, Values}
 use Rattle.c_fault_places.specs.DeclarationReading.{Listed, list_at, list_step, read_more, take_name, maybe_from, maybe_before}

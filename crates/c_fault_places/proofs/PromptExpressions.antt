@@ -1,32 +1,28 @@
 -- The readings of expressions are prompt.
-use Rattle.std.proofs.Common.{◌≡◌, ℕ, zero, suc, Bool, true, false, List, [], ◌∷◌, ◌++◌, Option, Some, None, ltb, leb}
-use Rattle.std.proofs.Common.{if◌then◌else◌, refl, ap, sym, ◌∙◌, subst}
+use Rattle.std.proofs.Common.{◌≡◌, ℕ, zero, suc, Bool, true, false, List, [], ◌∷◌, ◌++◌, Some, ltb, leb}
+use Rattle.std.proofs.Common.{if◌then◌else◌, refl, ap, subst}
 use denote.Enum.Bare.{same_true}
 use Rattle.pcc_base.specs.declared.span.Span.{Span}
 use Rattle.c_lex.specs.declared.token.Token.{Token}
 use Rattle.c_lex.specs.declared.token.TokenKind.{TokenKind}
 use Rattle.c_lex.specs.declared.token.TokenKind.TheVariants as kinds
-use Rattle.c_lex.specs.declared.token.Punct.{Punct}
 use Rattle.c_lex.specs.declared.token.Punct.TheVariants as marks
 use Rattle.c_lex.specs.contracts.token.Punct.{the_type as the_marks}
-use Rattle.c_syntax.specs.declared.operator.BinaryOp.{BinaryOp}
-use Rattle.c_syntax.specs.declared.operator.UnaryOp.{UnaryOp}
-use Rattle.c_syntax.specs.declared.operator.StepOp.{StepOp}
 use Rattle.c_syntax.specs.declared.operator.AssignOp.{AssignOp}
 use Rattle.c_syntax.specs.declared.expression.Identifier.{Identifier as Ident}
 use Rattle.c_syntax.specs.declared.expression.Specifier.{Specifier}
 use Rattle.c_syntax.specs.declared.expression.TextPiece.{TextPiece}
 use Rattle.c_syntax.specs.Marks.{mark, word}
-use Rattle.c_syntax.specs.Expressions.{Star, Expr, exprs_of, Identifier, Number, Text, Parenthesised, Call, Index}
+use Rattle.c_syntax.specs.Expressions.{Expr, exprs_of, Identifier, Number, Text, Parenthesised, Call, Index}
 use Rattle.c_syntax.specs.Expressions.{Postfix, Prefix, Unary, Cast, Binary, Conditional, Assignment}
 use Rattle.c_syntax.specs.ExpressionTokens.{expr_height, looseness}
 use Rattle.c_grammar.specs.Heads.{begins}
 use Rattle.c_grammar.specs.Taking.{is_mark, take_mark, take_unary, take_step, take_assign, take_binary, take_texts}
 use Rattle.c_grammar.specs.Taking.{take_specifiers, take_pointer}
-use Rattle.c_fault_places.specs.Chains.{Step, Takes, Reads, Found, Faults, then_read, above, chained}
+use Rattle.c_fault_places.specs.Chains.{Reads, Found, Faults, then_read, above, chained}
 use Rattle.c_fault_places.specs.Taking.{read_mark}
 use Rattle.c_fault_places.specs.Reading.{Reader, Readers, Values, value_at, value_step, arguments_from, read_arguments}
-use Rattle.c_fault_places.specs.Reading.{call_from, parenthesised_from, primary_at, read_primary, postfix_from}
+use Rattle.c_fault_places.specs.Reading.{call_from, parenthesised_from, read_primary, postfix_from}
 use Rattle.c_fault_places.specs.Reading.{suffix_from, suffix_step, read_postfix, unary_from, prefix_from, read_unary}
 use Rattle.c_fault_places.specs.Reading.{cast_behind, cast_inside, cast_with, cast_from, read_cast, infix_from, infix_step}
 use Rattle.c_fault_places.specs.Reading.{read_infix, read_binary, conditional_from, read_conditional, assignment_from}

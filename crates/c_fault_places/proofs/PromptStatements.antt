@@ -1,5 +1,5 @@
 -- The readings of statements and units are prompt.
-use Rattle.std.proofs.Common.{◌≡◌, ℕ, zero, suc, Bool, true, false, List, [], ◌∷◌, ◌++◌, Option, Some, None, refl, subst}
+use Rattle.std.proofs.Common.{ℕ, zero, suc, Bool, true, false, List, [], ◌∷◌, ◌++◌, Option, Some, None, refl, subst}
 use Rattle.pcc_base.specs.declared.span.Span.{Span}
 use Rattle.pcc_base.specs.declared.keyword.Keyword.TheVariants as words
 use Rattle.c_lex.specs.declared.token.Token.{Token}
@@ -12,15 +12,15 @@ use Rattle.c_syntax.specs.Statements.{Switch, While, Do, For, ForDeclaration, Br
 use Rattle.c_syntax.specs.Statements.{ExternalTree, FunctionTree, DeclaredTree}
 use Rattle.c_syntax.specs.Marks.{mark, word}
 use Rattle.c_grammar.specs.Taking.{take_mark, take_word, take_specifiers}
-use Rattle.c_fault_places.specs.Chains.{Step, Done, Takes, Reads, Found, Faults, then_read, chained}
+use Rattle.c_fault_places.specs.Chains.{Done, Takes, Reads, Found, Faults, then_read}
 use Rattle.c_fault_places.specs.Taking.{read_mark, read_word}
 use Rattle.c_fault_places.specs.Heads.{begins_item}
-use Rattle.c_fault_places.specs.Reading.{Reader, Readers, readers, no_readers}
+use Rattle.c_fault_places.specs.Reading.{Reader, readers}
 use Rattle.c_fault_places.specs.DeclarationReading.{maybe_before, read_declarator, declaration_behind, read_declaration}
 use Rattle.c_fault_places.specs.StatementReading.{StmtReader, Below, Condition, read_condition, until_at, until_step, read_until}
 use Rattle.c_fault_places.specs.StatementReading.{default_at, label_at, label_step, read_labels, read_labelled, item_with}
 use Rattle.c_fault_places.specs.StatementReading.{read_block_item, block_behind, else_from, if_behind, while_behind, do_behind}
-use Rattle.c_fault_places.specs.StatementReading.{ForRest, read_for_rest, for_with, for_behind, switch_behind, break_behind}
+use Rattle.c_fault_places.specs.StatementReading.{read_for_rest, for_with, for_behind, switch_behind, break_behind}
 use Rattle.c_fault_places.specs.StatementReading.{continue_behind, return_behind, read_simple, or_return, or_continue, or_break}
 use Rattle.c_fault_places.specs.StatementReading.{or_switch, or_for, or_do, or_while, or_if, or_block, read_statement, no_item}
 use Rattle.c_fault_places.specs.StatementReading.{below_of, has_parameters, external_from, external_behind, external_with}

@@ -1,6 +1,6 @@
 -- What is taken of a kind, and a row of tokens: each rests on the next token alone.
-use Rattle.std.proofs.Common.{◌≡◌, ℕ, Bool, true, false, List, [], ◌∷◌, ◌++◌, Option, Some, None, if◌then◌else◌}
-use Rattle.std.proofs.Common.{refl, ap, sym, ◌∙◌, subst}
+use Rattle.std.proofs.Common.{◌≡◌, ℕ, Bool, true, false, List, [], ◌∷◌, Option, Some, None, if◌then◌else◌}
+use Rattle.std.proofs.Common.{refl, ap, ◌∙◌, subst}
 use Rattle.pcc_base.specs.declared.span.Span.{Span}
 use Rattle.pcc_base.specs.declared.keyword.Keyword.{Keyword}
 use Rattle.pcc_base.specs.declared.keyword.Keyword.TheVariants as words
@@ -18,13 +18,12 @@ use Rattle.c_syntax.specs.declared.expression.Identifier.{Identifier as Ident}
 use Rattle.c_syntax.specs.declared.expression.Specifier.{Specifier}
 use Rattle.c_syntax.specs.declared.expression.TextPiece.{TextPiece}
 use Rattle.c_syntax.specs.Marks.{mark, word, binary_mark, unary_mark, step_mark, assign_mark}
-use Rattle.c_syntax.specs.Expressions.{Star}
 use Rattle.c_syntax.specs.ExpressionTokens.{binary_level}
 use Rattle.c_grammar.specs.Taking.{is_mark, is_word, of_mark, binary_of_mark, unary_of_mark, step_of_mark, assign_of_mark}
-use Rattle.c_grammar.specs.Taking.{specifier_of, at_level, taken, take_by, take_unary, take_step, take_assign, take_binary}
+use Rattle.c_grammar.specs.Taking.{specifier_of, at_level, taken, take_unary, take_step, take_assign, take_binary}
 use Rattle.c_grammar.specs.Taking.{take_mark, take_word, with_front, texts_from, take_texts, specifiers_from}
 use Rattle.c_grammar.specs.Taking.{take_specifiers, take_consts, pointer_from, take_pointer}
-use Rattle.c_fault_places.specs.Chains.{Takes, Reads, Found, Faults, needed}
+use Rattle.c_fault_places.specs.Chains.{Takes, Reads, Found, needed}
 use Rattle.c_fault_places.specs.Taking.{read_mark, read_word}
 use Rattle.c_fault_places.specs.DeclarationReading.{name_from, take_name}
 use Rattle.c_fault_places.specs.Laws.{Kept, Prompt}
