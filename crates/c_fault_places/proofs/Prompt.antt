@@ -1,9 +1,11 @@
 -- What a reading answers rests on the tokens that it took and on the next one alone.
 use Rattle.std.proofs.Common.{◌≡◌, ℕ, zero, suc, ◌≤◌, ◌<◌, Bool, true, false, List, [], ◌∷◌, ◌++◌, length}
-use Rattle.std.proofs.Common.{Some, None, ltb, if◌then◌else◌, refl, ap, sym, ◌∙◌, subst, arith, append_assoc, length-append}
+use Rattle.std.proofs.Common.{Some, None, ltb, if◌then◌else◌, refl, ap, sym, ◌∙◌, subst, arith, append_assoc}
+use Rattle.std.proofs.Common.{length-append}
 use Rattle.c_lex.specs.declared.token.Token.{Token}
 use Rattle.c_grammar.specs.Taking.{with_front}
-use Rattle.c_fault_places.specs.Chains.{Step, Done, Fails, Goes, Takes, Reads, Found, Faults, then_read, then_step, above}
+use Rattle.c_fault_places.specs.Chains.{Step, Done, Fails, Goes, Takes, Reads, Found, Faults, then_read, then_step}
+use Rattle.c_fault_places.specs.Chains.{above}
 use Rattle.c_fault_places.specs.Chains.{chain, chain_on, chained}
 use Rattle.c_fault_places.specs.Laws.{Same, Kept, Prompt}
 

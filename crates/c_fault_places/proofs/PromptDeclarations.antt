@@ -15,13 +15,18 @@ use Rattle.c_grammar.specs.Taking.{take_mark, take_specifiers, take_pointer}
 use Rattle.c_fault_places.specs.Chains.{Takes, Reads, Found, then_read, chained}
 use Rattle.c_fault_places.specs.Taking.{read_mark}
 use Rattle.c_fault_places.specs.Reading.{Reader, Readers, Values}
-use Rattle.c_fault_places.specs.DeclarationReading.{Listed, list_at, list_step, read_more, take_name, maybe_from, maybe_before}
+use Rattle.c_fault_places.specs.DeclarationReading.{Listed, list_at, list_step, read_more, take_name, maybe_from}
+use Rattle.c_fault_places.specs.DeclarationReading.{maybe_before}
 use Rattle.c_fault_places.specs.DeclarationReading.{array_behind, maybe_array_from, read_maybe_array, parameter_named}
 use Rattle.c_fault_places.specs.DeclarationReading.{parameter_behind, parameter_with, read_parameter, parameters_from}
-use Rattle.c_fault_places.specs.DeclarationReading.{read_parameters, parameters_behind, part_in_parens, part_from, read_part}
-use Rattle.c_fault_places.specs.DeclarationReading.{declarator_named, declarator_behind, read_declarator, Braced, brace_close}
-use Rattle.c_fault_places.specs.DeclarationReading.{brace_at, brace_behind, brace_step, braces_end, read_values, braces_behind}
-use Rattle.c_fault_places.specs.DeclarationReading.{initialiser_from, read_initialiser, value_from, item_behind, read_item}
+use Rattle.c_fault_places.specs.DeclarationReading.{read_parameters, parameters_behind, part_in_parens, part_from}
+use Rattle.c_fault_places.specs.DeclarationReading.{read_part}
+use Rattle.c_fault_places.specs.DeclarationReading.{declarator_named, declarator_behind, read_declarator, Braced}
+use Rattle.c_fault_places.specs.DeclarationReading.{brace_close}
+use Rattle.c_fault_places.specs.DeclarationReading.{brace_at, brace_behind, brace_step, braces_end, read_values}
+use Rattle.c_fault_places.specs.DeclarationReading.{braces_behind}
+use Rattle.c_fault_places.specs.DeclarationReading.{initialiser_from, read_initialiser, value_from, item_behind}
+use Rattle.c_fault_places.specs.DeclarationReading.{read_item}
 use Rattle.c_fault_places.specs.DeclarationReading.{declaration_behind, declaration_with, read_declaration}
 use Rattle.c_fault_places.specs.Laws.{Prompt}
 use Rattle.c_fault_places.proofs.Prompt.{found_prompt, faults_prompt, prompt_then, Reading, behind_above, prompt_choice}

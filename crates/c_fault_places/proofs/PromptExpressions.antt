@@ -24,13 +24,17 @@ use Rattle.c_fault_places.specs.Taking.{read_mark}
 use Rattle.c_fault_places.specs.Reading.{Reader, Readers, Values, value_at, value_step, arguments_from, read_arguments}
 use Rattle.c_fault_places.specs.Reading.{call_from, parenthesised_from, read_primary, postfix_from}
 use Rattle.c_fault_places.specs.Reading.{suffix_from, suffix_step, read_postfix, unary_from, prefix_from, read_unary}
-use Rattle.c_fault_places.specs.Reading.{cast_behind, cast_inside, cast_with, cast_from, read_cast, infix_from, infix_step}
+use Rattle.c_fault_places.specs.Reading.{cast_behind, cast_inside, cast_with, cast_from, read_cast, infix_from}
+use Rattle.c_fault_places.specs.Reading.{infix_step}
 use Rattle.c_fault_places.specs.Reading.{read_infix, read_binary, conditional_from, read_conditional, assignment_from}
 use Rattle.c_fault_places.specs.Reading.{read_assignment, read_expression, no_reader, readers}
 use Rattle.c_fault_places.specs.Laws.{Kept, Prompt}
-use Rattle.c_fault_places.proofs.Prompt.{found_prompt, faults_prompt, prompt_then, prompt_same, token_alike, nothing_alike}
-use Rattle.c_fault_places.proofs.Prompt.{Behind, Reading, Stuck, behind_kept, behind_above, prompt_choice, prompt_unless}
-use Rattle.c_fault_places.proofs.Prompt.{row_of, prompt_by_row, PromptStep, step_then, step_done, step_choice, prompt_chained}
+use Rattle.c_fault_places.proofs.Prompt.{found_prompt, faults_prompt, prompt_then, prompt_same, token_alike}
+use Rattle.c_fault_places.proofs.Prompt.{nothing_alike}
+use Rattle.c_fault_places.proofs.Prompt.{Behind, Reading, Stuck, behind_kept, behind_above, prompt_choice}
+use Rattle.c_fault_places.proofs.Prompt.{prompt_unless}
+use Rattle.c_fault_places.proofs.Prompt.{row_of, prompt_by_row, PromptStep, step_then, step_done, step_choice}
+use Rattle.c_fault_places.proofs.Prompt.{prompt_chained}
 use Rattle.c_fault_places.proofs.PromptTokens.{mark_single, unary_single, step_single, assign_single, binary_single}
 use Rattle.c_fault_places.proofs.PromptTokens.{spell_unary, spell_step, spell_assign, spell_binary, mark_prompt}
 use Rattle.c_fault_places.proofs.PromptTokens.{specifiers_row, texts_prompt, specifiers_prompt, pointer_prompt}

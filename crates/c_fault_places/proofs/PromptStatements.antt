@@ -17,21 +17,30 @@ use Rattle.c_fault_places.specs.Taking.{read_mark, read_word}
 use Rattle.c_fault_places.specs.Heads.{begins_item}
 use Rattle.c_fault_places.specs.Reading.{Reader, readers}
 use Rattle.c_fault_places.specs.DeclarationReading.{maybe_before, read_declarator, declaration_behind, read_declaration}
-use Rattle.c_fault_places.specs.StatementReading.{StmtReader, Below, Condition, read_condition, until_at, until_step, read_until}
-use Rattle.c_fault_places.specs.StatementReading.{default_at, label_at, label_step, read_labels, read_labelled, item_with}
-use Rattle.c_fault_places.specs.StatementReading.{read_block_item, block_behind, else_from, if_behind, while_behind, do_behind}
+use Rattle.c_fault_places.specs.StatementReading.{StmtReader, Below, Condition, read_condition, until_at, until_step}
+use Rattle.c_fault_places.specs.StatementReading.{read_until}
+use Rattle.c_fault_places.specs.StatementReading.{default_at, label_at, label_step, read_labels, read_labelled}
+use Rattle.c_fault_places.specs.StatementReading.{item_with}
+use Rattle.c_fault_places.specs.StatementReading.{read_block_item, block_behind, else_from, if_behind, while_behind}
+use Rattle.c_fault_places.specs.StatementReading.{do_behind}
 use Rattle.c_fault_places.specs.StatementReading.{read_for_rest, for_with, for_behind, switch_behind, break_behind}
-use Rattle.c_fault_places.specs.StatementReading.{continue_behind, return_behind, read_simple, or_return, or_continue, or_break}
-use Rattle.c_fault_places.specs.StatementReading.{or_switch, or_for, or_do, or_while, or_if, or_block, read_statement, no_item}
-use Rattle.c_fault_places.specs.StatementReading.{below_of, has_parameters, external_from, external_behind, external_with}
+use Rattle.c_fault_places.specs.StatementReading.{continue_behind, return_behind, read_simple, or_return, or_continue}
+use Rattle.c_fault_places.specs.StatementReading.{or_break}
+use Rattle.c_fault_places.specs.StatementReading.{or_switch, or_for, or_do, or_while, or_if, or_block, read_statement}
+use Rattle.c_fault_places.specs.StatementReading.{no_item}
+use Rattle.c_fault_places.specs.StatementReading.{below_of, has_parameters, external_from, external_behind}
+use Rattle.c_fault_places.specs.StatementReading.{external_with}
 use Rattle.c_fault_places.specs.StatementReading.{read_external, unit_step, read_unit}
 use Rattle.c_fault_places.specs.Laws.{Prompt}
 use Rattle.c_fault_places.proofs.Reading.{readers-none}
-use Rattle.c_fault_places.proofs.Prompt.{found_prompt, faults_prompt, prompt_then, token_alike, nothing_alike, Behind, Reading}
-use Rattle.c_fault_places.proofs.Prompt.{behind_above, prompt_choice, prompt_unless, row_of, prompt_by_row, Eaten, Eats, eats_first, eats_last}
+use Rattle.c_fault_places.proofs.Prompt.{found_prompt, faults_prompt, prompt_then, token_alike, nothing_alike, Behind}
+use Rattle.c_fault_places.proofs.Prompt.{Reading}
+use Rattle.c_fault_places.proofs.Prompt.{behind_above, prompt_choice, prompt_unless, row_of, prompt_by_row, Eaten, Eats}
+use Rattle.c_fault_places.proofs.Prompt.{eats_first, eats_last}
 use Rattle.c_fault_places.proofs.Prompt.{eats_choice, PromptStep, step_of, step_then, step_done, step_same, step_token}
 use Rattle.c_fault_places.proofs.Prompt.{step_nothing, step_choice, step_until, step_reads, prompt_chained}
-use Rattle.c_fault_places.proofs.PromptTokens.{mark_single, word_single, mark_prompt, mark_eats, word_prompt, specifiers_row}
+use Rattle.c_fault_places.proofs.PromptTokens.{mark_single, word_single, mark_prompt, mark_eats, word_prompt}
+use Rattle.c_fault_places.proofs.PromptTokens.{specifiers_row}
 use Rattle.c_fault_places.proofs.PromptTokens.{specifiers_prompt}
 use Rattle.c_fault_places.proofs.PromptExpressions.{ArePrompt, readers_prompt}
 use Rattle.c_fault_places.proofs.PromptDeclarations.{maybe_prompt, declarator_prompt, declaration_behind_prompt}
@@ -60,7 +69,8 @@ condition_prompt b p = prompt_then (read_mark marks.LeftParen) _ (mark_prompt ma
 until_prompt : (read : StmtReader) → Prompt read → Eats read → (so_far : List Stmt)
     → PromptStep (until_step read so_far)
 until_prompt read p h so_far =
-    step_until (mark marks.RightBrace) (take_mark marks.RightBrace) (mark_single marks.RightBrace) (until_at read so_far)
+    step_until (mark marks.RightBrace) (take_mark marks.RightBrace) (mark_single marks.RightBrace)
+    (until_at read so_far)
     (step_same (λ ts. until_at read so_far None ts)
     (λ ts. step_of (then_read (read ts) (λ s us. Found (so_far ++ s ∷ []) us)))
     (λ ts. step_then (read ts) _ _ (λ s us. refl))

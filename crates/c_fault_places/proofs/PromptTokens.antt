@@ -19,7 +19,8 @@ use Rattle.c_syntax.specs.declared.expression.Specifier.{Specifier}
 use Rattle.c_syntax.specs.declared.expression.TextPiece.{TextPiece}
 use Rattle.c_syntax.specs.Marks.{mark, word, binary_mark, unary_mark, step_mark, assign_mark}
 use Rattle.c_syntax.specs.ExpressionTokens.{binary_level}
-use Rattle.c_grammar.specs.Taking.{is_mark, is_word, of_mark, binary_of_mark, unary_of_mark, step_of_mark, assign_of_mark}
+use Rattle.c_grammar.specs.Taking.{is_mark, is_word, of_mark, binary_of_mark, unary_of_mark, step_of_mark}
+use Rattle.c_grammar.specs.Taking.{assign_of_mark}
 use Rattle.c_grammar.specs.Taking.{specifier_of, at_level, taken, take_unary, take_step, take_assign, take_binary}
 use Rattle.c_grammar.specs.Taking.{take_mark, take_word, with_front, texts_from, take_texts, specifiers_from}
 use Rattle.c_grammar.specs.Taking.{take_specifiers, take_consts, pointer_from, take_pointer}
@@ -27,9 +28,11 @@ use Rattle.c_fault_places.specs.Chains.{Takes, Reads, Found, needed}
 use Rattle.c_fault_places.specs.Taking.{read_mark, read_word}
 use Rattle.c_fault_places.specs.DeclarationReading.{name_from, take_name}
 use Rattle.c_fault_places.specs.Laws.{Kept, Prompt}
-use Rattle.c_fault_places.proofs.Sound.{HoldsTaken, mark_taken, word_taken, unary_taken, step_taken, assign_taken, binary_taken}
+use Rattle.c_fault_places.proofs.Sound.{HoldsTaken, mark_taken, word_taken, unary_taken, step_taken, assign_taken}
+use Rattle.c_fault_places.proofs.Sound.{binary_taken}
 use Rattle.c_fault_places.proofs.Prompt.{Single, Fitting, Misses, Fits, Row, RowFit, Ends, More, row_of, Eats, Reading}
-use Rattle.c_fault_places.proofs.Prompt.{found_prompt, faults_prompt, prompt_then, prompt_choice, prompt_row, eats_choice}
+use Rattle.c_fault_places.proofs.Prompt.{found_prompt, faults_prompt, prompt_then, prompt_choice, prompt_row}
+use Rattle.c_fault_places.proofs.Prompt.{eats_choice}
 use Rattle.c_fault_places.proofs.Prompt.{token_alike, nothing_alike, behind_kept, behind_same}
 
 -- ---- one token
@@ -107,7 +110,8 @@ level_token k ts None h = tt
 level_token k ts (Some (a, us)) h = h.0
 
 pub binary_single : (k : ℕ) → Single (BinaryOp × Span) spell_binary (take_binary k)
-binary_single k = single spell_binary (take_binary k) refl (λ ts. level_token k ts (take_binary k ts) (binary_taken k ts))
+binary_single k = single spell_binary (take_binary k) refl
+    (λ ts. level_token k ts (take_binary k ts) (binary_taken k ts))
     (λ t. paired (at_level k (of_mark binary_of_mark t.kind)) t.at)
     (λ t us. by_table (at_level k (of_mark binary_of_mark t.kind)) t.at us)
 
@@ -179,13 +183,17 @@ name_kept t us (kinds.Ident name) e =
     behind_kept (row_of take_name) t us (behind_same t (λ xs. Found (Some n) xs) (λ xs. row_of take_name (t ∷ xs))
     (λ xs. ap (λ k. named k t xs) e) (Reading (found_prompt (Some n)))))
 name_kept t us (kinds.Word w) e =
-    token_alike (row_of take_name) (λ xs. Found None xs) t us (λ xs. ap (λ k. named k t xs) e) (found_prompt None (t ∷ us))
+    token_alike (row_of take_name) (λ xs. Found None xs) t us (λ xs. ap (λ k. named k t xs) e)
+    (found_prompt None (t ∷ us))
 name_kept t us (kinds.Text bytes) e =
-    token_alike (row_of take_name) (λ xs. Found None xs) t us (λ xs. ap (λ k. named k t xs) e) (found_prompt None (t ∷ us))
+    token_alike (row_of take_name) (λ xs. Found None xs) t us (λ xs. ap (λ k. named k t xs) e)
+    (found_prompt None (t ∷ us))
 name_kept t us (kinds.Number z u) e =
-    token_alike (row_of take_name) (λ xs. Found None xs) t us (λ xs. ap (λ k. named k t xs) e) (found_prompt None (t ∷ us))
+    token_alike (row_of take_name) (λ xs. Found None xs) t us (λ xs. ap (λ k. named k t xs) e)
+    (found_prompt None (t ∷ us))
 name_kept t us (kinds.Mark m) e =
-    token_alike (row_of take_name) (λ xs. Found None xs) t us (λ xs. ap (λ k. named k t xs) e) (found_prompt None (t ∷ us))
+    token_alike (row_of take_name) (λ xs. Found None xs) t us (λ xs. ap (λ k. named k t xs) e)
+    (found_prompt None (t ∷ us))
 
 pub name_prompt : Prompt (row_of take_name)
 name_prompt [] = nothing_alike (row_of take_name) (λ xs. Found None xs) refl (found_prompt None [])
