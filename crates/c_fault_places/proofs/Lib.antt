@@ -8,3 +8,8 @@ pub mod StatementComplete
 pub mod Sound
 pub mod SoundDeclarations
 pub mod SoundStatements
+pub mod Prompt
+pub mod PromptTokens
+pub mod PromptExpressions
+pub mod PromptDeclarations
+pub mod PromptStatements

@@ -4,4 +4,4 @@
 
 mod laws;
 
-pub use laws::read_trees;
+pub use laws::{read_trees, readings_are_prompt};
