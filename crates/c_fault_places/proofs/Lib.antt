@@ -1,0 +1,15 @@
+pub mod Chains
+pub mod Reading
+pub mod NoCasts
+pub mod Complete
+pub mod DeclarationComplete
+pub mod StatementReading
+pub mod StatementComplete
+pub mod Sound
+pub mod SoundDeclarations
+pub mod SoundStatements
+pub mod Prompt
+pub mod PromptTokens
+pub mod PromptExpressions
+pub mod PromptDeclarations
+pub mod PromptStatements

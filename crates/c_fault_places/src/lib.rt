@@ -1,0 +1,7 @@
+//! Where reading a list of tokens fails. The readings of `specs/` are those of `c_grammar` that say, where they find
+//! nothing, before which token they fail, and whether it is for want of height alone.
+#![tactic(auto)]
+
+mod laws;
+
+pub use laws::{read_trees, readings_are_prompt};
