@@ -1,4 +1,4 @@
-use Rattle.std.proofs.Common.{length, arith}
+use Rattle.std.proofs.Common.{arith}
 use Rattle.std.proofs.lemmas.List.{length-map}
 use Rattle.map_text.specs.Rules.{IsMapFunction}
 use Rattle.map_file.specs.Views.{array_of, block_of, function_of, map_of, variable_of}
