@@ -1,3 +1,4 @@
+pub mod AllRead
 pub mod Cuts
 pub mod Parsed
-pub mod AllRead
+pub mod Trees

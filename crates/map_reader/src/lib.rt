@@ -11,8 +11,11 @@ mod lists;
 mod numbers;
 mod ops;
 mod places;
+mod reading;
+mod tree;
 mod words;
 
 pub use line::Line;
 pub use lines::read_line;
+pub use reading::read_front;
 pub use words::words_of;
