@@ -55,11 +55,11 @@ def on_kernel(path, entered):
     return Ran(SIGNALS.get(-it.returncode, f"signal {-it.returncode}"), it.stdout)
 
 
-def compile_by_gcc(sources, made):
-    """Makes an executable of these sources, or of objects, with gcc, for i386 as pcc does."""
+def compile_by_gcc(sources, made, flags=()):
+    """Makes an executable of these sources, or of objects, with gcc, for i386 as pcc does. A flag is behind those here."""
     start = f"{made}.start.o"
     subprocess.run(["as", "--32", "-o", start, f"{BENCH}/start_i386.s"], check=True)
-    subprocess.run([*GCC, *LINKED, "-o", made, *sources, start], check=True)
+    subprocess.run([*GCC, *flags, *LINKED, "-o", made, *sources, start], check=True)
 
 
 def compile_by_tcc(sources, made):

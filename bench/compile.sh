@@ -1,14 +1,15 @@
 #!/bin/sh
-# Measures `pcc compile` at about 6,000 and 60,000 tokens, beside `i386-tcc -c`, `gcc -m32 -O0 -S` and
-# `gcc -fsyntax-only` on the same text: the processor's time, the shortest of several runs, the greatest memory, and the
-# time for a token; and the same at 10,000 tokens, with 10 names in all and with as many names as functions of a person
-# have, beside tcc. Then come the times up to the tokens, the tree and the types, from texts whose only fault stands at
-# their end, and how the samples that perf takes of the processor's clock fall to the storeys of crates.txt and to their
-# crates.
+# Measures `pcc compile` at about 6,000 and 60,000 tokens, and on the generated program of 230 functions, beside
+# `i386-tcc -c`, `gcc -m32 -O0 -S` and `gcc -fsyntax-only` on the same text: the processor's time, the shortest of several
+# runs, the greatest memory, and the time for a token; and the same at 10,000 tokens, with 10 names in all and with as
+# many names as functions of a person have, beside tcc. Then come the size of each map, in all and a point; the times up
+# to the tokens, the tree and the types, from texts whose only fault stands at their end; and how the samples that perf
+# takes of the processor's clock fall to the storeys of crates.txt and to their crates: `map_lines` and `map_text` print
+# the map.
 #
 # usage: bench/compile.sh [RUNS]     so many runs each, else 5
 #
-# It wants python3, tcc and gcc that make code for i386, GNU time and perf.
+# It wants python3, gcc that makes code for i386, GNU time and perf; where there is no i386-tcc, its rows are left out.
 . "$(dirname "$(readlink -f "$0")")/start.sh"
 build_pcc
 
@@ -16,10 +17,14 @@ PYTHONPATH=$top/bench python3 -B - "$top" "$room" "${1:-5}" <<'PYTHON'
 import collections
 import os
 import re
+import shutil
 import subprocess
 import sys
 
+from generated import program
+
 TOP, ROOM, RUNS = sys.argv[1], sys.argv[2], int(sys.argv[3])
+HAS_TCC = shutil.which("i386-tcc") is not None
 PROGRAM = f"{TOP}/crates/pcc/out/pcc"
 # Functions like those of a person
 BODY = """static int function_%d(int first, const char *second)
@@ -35,7 +40,7 @@ BODY = """static int function_%d(int first, const char *second)
 
 """
 MAIN = 'int main(void)\n{\n    return function_0(3, "a\\nb");\n}\n'
-TOKEN = re.compile(r'[A-Za-z_]\w*|\d\w*|"[^"]*"|\'[^\']*\'|<<|\+\+|\+=|-=|>=|!=|&&|\S')
+TOKEN = re.compile(r'[A-Za-z_]\w*|\d\w*|"[^"]*"|\'[^\']*\'|<<|>>|\+\+|\+=|-=|>=|!=|&&|\S')
 FUNCTIONS = [54, 540]
 # What may stand between other statements of a function: its nine names are those of eight numbers, and of an array
 STATEMENTS = """    if (a < b && b != 7)
@@ -103,11 +108,25 @@ def beside_others(sources):
     print("|---|---|---|---|---|---|")
     own = {}
     for way, words in WAYS.items():
-        for tokens, path in sources.items():
+        for (tokens, _), path in sources.items():
+            if way == "`i386-tcc -c`" and not HAS_TCC:
+                continue
             time = seconds(words(path))
-            own.setdefault(tokens, time)
+            own.setdefault(path, time)
             row = f"{time * 1e3:.1f} ms | {time / tokens * 1e6:.2f} µs | {megabytes(words(path)):.1f} MB"
-            print(f"| {way} | {tokens:,} | {row} | {own[tokens] / time:.2f} |", flush=True)
+            print(f"| {way} | {tokens:,} | {row} | {own[path] / time:.2f} |", flush=True)
+
+
+def maps(sources):
+    """The size of the map of each source, in all and a point."""
+    print("| tokens | text | points | map | a point |")
+    print("|---|---|---|---|---|")
+    for (tokens, what), path in sources.items():
+        subprocess.run(compiled(path), check=True)
+        with open(f"{ROOM}/image.map", encoding="ascii") as file:
+            text = file.read()
+        points = text.count("\npoint ")
+        print(f"| {tokens:,} | {what} | {points:,} | {len(text) / 1e6:.1f} MB | {len(text) / points:.0f} bytes |", flush=True)
 
 
 def few_names(tokens):
@@ -132,8 +151,8 @@ def by_names(tokens):
         text = text_of(tokens)
         path, found = made("names.c", text), TOKEN.findall(text)
         names = {name for name in found if re.match(r"[A-Za-z_]", name)} - WORDS
-        own, other = seconds(compiled(path)), seconds(by_tcc(path))
-        times = f"{own * 1e3:.1f} ms | {other * 1e3:.1f} ms | {own / other:.2f}"
+        own, other = seconds(compiled(path)), seconds(by_tcc(path)) if HAS_TCC else None
+        times = f"{own * 1e3:.1f} ms | " + (f"{other * 1e3:.1f} ms | {own / other:.2f}" if HAS_TCC else "left out | left out")
         print(f"| {what} | {len(found):,} | {len(names):,} | {times} |", flush=True)
 
 
@@ -195,11 +214,14 @@ def main():
     for functions in FUNCTIONS:
         text = "".join(BODY % (number, number, number) for number in range(functions)) + MAIN
         texts[len(TOKEN.findall(text))] = text
-    sources = {tokens: made(f"{tokens}.c", text) for tokens, text in texts.items()}
+    sources = {(tokens, "functions of a person"): made(f"{tokens}.c", text) for tokens, text in texts.items()}
+    text = program(230, 1)
+    sources[len(TOKEN.findall(text)), "generated"] = made("generated.c", text)
     beside_others(sources)
     by_names(10000)
+    maps(sources)
     by_pass(texts)
-    for tokens, path in sources.items():
+    for (tokens, _), path in sources.items():
         by_storey(tokens, path)
 
 

@@ -4,7 +4,7 @@
 # earlier checks kept of the crates is copied with them: call `rt all check` first.
 . "$(dirname "$(readlink -f "$0")")/start.sh"
 
-below='pcc_base c_lex c_syntax c_parse_expressions c_parse'
+below='pcc_base c_lex c_syntax c_grammar c_parse_expressions c_parse'
 mkdir -p "$room/crates/parsing/src" && cd "$room" && git init -q . || exit 1
 for crate in $below; do
     (cd "$top/crates" && tar c --exclude=must-fail "$crate") | tar x -C crates || exit 1

@@ -4,8 +4,11 @@ usage: gdb -x tools/gdb-pcc.py IMAGE        (the map is IMAGE.map)
 
     pcc-sources FILE.c..     the program's sources, in the order of the command that compiled them
     pcc-break FILE:LINE      a breakpoint at the first statement that begins on that line, or on the next line that has one
-    pcc-where                the function and the source line of the statement at which the program stands
+    pcc-where                the function and the source line of the statement at which the program stands, or at which it trapped
     pcc-locals               the locals that are live there: numbers signed, and pointers as an array with an index
+    pcc-trace                notes each statement as it starts, from now on; the program runs slower
+
+All failed checks trap at one UD2 behind the functions, so there the address doesn't tell the statement: `pcc-trace` before `run` does.
 
 An array is `null`, `oK` for static object K, or `dJ.K` for frame array K of the call of depth J (1 is main's); `?` is a word that is none of them.
 """
@@ -27,6 +30,7 @@ class Program:
 
     def __init__(self):
         self.name, self.map, self.places, self.numbered = None, None, [], []
+        self.started = {}  # for each frame, by its EBP, the statement that started last
 
     def read(self):
         name = gdb.current_progspace().filename
@@ -72,17 +76,34 @@ def word(address):
     return struct.unpack("<I", memory(address, 4))[0]
 
 
+def has_failed():
+    """Whether the program stands at the trap of failed checks."""
+    return memory(register("eip"), 2) == b"\x0f\x0b"
+
+
+def caller():
+    """The function and the point from which the function of this frame was called, or None where that is `main`."""
+    f, point = PROGRAM.read().point_at(word(register("ebp") + 4) - 1)
+    return (f, point) if point is not None and point.op.name == "call" else None
+
+
+def function_now():
+    """The function of the frame at EBP."""
+    program = PROGRAM.read()
+    if not has_failed():
+        return program.point_at(register("eip"))[0]
+    called = caller()
+    number = int(called[1].op.words[2]) if called else None
+    return next(f for f in program.map.functions if (f.number == number if called else f.name == "main"))
+
+
 def frames():
     """The frames of the active calls, the youngest first: EBP and the function, by the return addresses above them."""
-    program, ebp = PROGRAM.read(), register("ebp")
-    f = program.point_at(register("eip"))[0]
+    program, ebp, f = PROGRAM.read(), register("ebp"), function_now()
     found = []
     while f is not None:
         found.append((ebp, f))
-        if f.name == "main" and word(ebp) == 0:
-            break
-        caller = program.point_at(word(ebp + 4) - 1)
-        ebp, f = word(ebp), caller[0]
+        f, ebp = program.point_at(word(ebp + 4) - 1)[0], word(ebp)
         if not ebp:
             break
     return found
@@ -137,8 +158,8 @@ def locals_at(f, point):
 def here():
     """The function and the point at which the program stands."""
     f, point = PROGRAM.read().point_at(register("eip"))
-    if point is None:
-        raise gdb.GdbError("the program stands at no point of the map")
+    if point is None or has_failed():
+        raise gdb.GdbError("the program stands at no point of the map" if point is None else "a check has failed; `pcc-where` says more")
     return f, point
 
 
@@ -184,16 +205,57 @@ class Break(gdb.Command):
 
 
 class Where(gdb.Command):
-    """pcc-where: the function and the source line of the statement at which the program stands."""
+    """pcc-where: the function and the source line of the statement at which the program stands, or at which it trapped."""
 
     def __init__(self):
         super().__init__("pcc-where", gdb.COMMAND_STACK)
 
     def invoke(self, argument, from_tty):
-        f, point = here()
-        number = PROGRAM.statement_of(f, point)
-        place = PROGRAM.numbered[number] if PROGRAM.numbered and number is not None else None
-        print(f"{f.name}, point {point.number}, statement {number}" + (f", {place.file}:{place.line}" if place else ""))
+        program = PROGRAM.read()
+        if not has_failed():
+            f, point = here()
+            number = program.statement_of(f, point)
+            print(f"{f.name}, point {point.number}, statement {number}{place_of(number)}")
+            return
+        f, called = function_now(), caller()
+        started = program.started.get(register("ebp"))
+        if started is not None:
+            print(f"a check failed in {f.name}, statement {started}{place_of(started)}")
+        elif called:
+            number = program.statement_of(*called)
+            print(f"a check failed in {f.name}, called by statement {number}{place_of(number)}; after `pcc-trace` and `run` the statement is known")
+        else:
+            print("a check failed in main; after `pcc-trace` and `run` the statement is known")
+
+
+def place_of(number):
+    """The file and line of a statement behind a comma, where the sources are known."""
+    if number is None or not PROGRAM.numbered:
+        return ""
+    return f", {PROGRAM.numbered[number].file}:{PROGRAM.numbered[number].line}"
+
+
+class Note(gdb.Breakpoint):
+    """Keeps the number of a statement that starts, and goes on."""
+
+    def __init__(self, address, number):
+        super().__init__(f"*{address:#x}", internal=True)
+        self.silent, self.number_of_statement = True, number
+
+    def stop(self):
+        PROGRAM.started[register("ebp")] = self.number_of_statement
+        return False
+
+
+class Trace(gdb.Command):
+    """pcc-trace: notes each statement as it starts, so that `pcc-where` tells the one whose check failed."""
+
+    def __init__(self):
+        super().__init__("pcc-trace", gdb.COMMAND_BREAKPOINTS)
+
+    def invoke(self, argument, from_tty):
+        for number, (_, point) in PROGRAM.read().map.marks().items():
+            Note(point.address, number)
 
 
 class Locals(gdb.Command):
@@ -209,5 +271,5 @@ class Locals(gdb.Command):
         print("\n".join(locals_at(f, point)) or "no local is live here")
 
 
-for command in (Sources, Break, Where, Locals):
+for command in (Sources, Break, Where, Locals, Trace):
     command()

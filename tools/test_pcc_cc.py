@@ -1,5 +1,6 @@
 """Tests of bin/pcc-cc: what it answers on mistakes that people make, and what it writes."""
 import os
+import resource
 import shutil
 import stat
 import subprocess
@@ -13,7 +14,7 @@ MISTAKES = (
     ("int main(void)\n{\n    int x = 5\n    int y = 6;\n    return x + y;\n}\n", "4:5", "5 Syntax", "a `;` is missing behind `5`, on the line before"),
     ("int main(void)\n{\n    int count = 5;\n    coutn = count + 1;\n    return count;\n}\n", "4:5", "9 Undeclared", "did you mean `count`?"),
     ("int main(void)\n{\n    unsigned int x = 5;\n    return x;\n}\n", "3:5", "6 Unsupported unsigned", "write `int`"),
-    ("struct point { int x; int y; };\nint main(void) { return 0; }\n", "1:1", "6 Unsupported struct", "a variable or an array for each member"),
+    ("struct point { int x; int y; };\nint main(void)\n{\n    struct point p;\n    p.x = 1;\n    return p.x;\n}\n", "1:1", "6 Unsupported struct", "a variable or an array for each member"),
     ("int main(void)\n{\n    int x = 2.5 * 3;\n    return x;\n}\n", "3:13", "2 BadNumber", "floating point is left out"),
     ("int main(void)\n{\n    float x = 5;\n    return x;\n}\n", "3:5", "6 Unsupported float", "count in `int`"),
     ("int main(void)\n{\n    long x = 5;\n    return x;\n}\n", "3:5", "6 Unsupported long", "types of more than 32 bits"),
@@ -25,17 +26,17 @@ MISTAKES = (
     ("int main(void)\n{\n    int a[4];\n    char *p = a;\n    return p[0];\n}\n", "4:15", "17 PointerUse", "a pointer to the very same type, or 0"),
     ("int main(void)\n{\n    int a[4];\n    int p = a;\n    return p;\n}\n", "4:13", "17 PointerUse", "a number takes a number"),
     ("int main(void)\n{\n    char *names[3];\n    return 0;\n}\n", "3:11", "17 PointerUse", "arrays of pointers are left out"),
-    ('static const char *message = "hello";\nint main(void)\n{\n    return message[0];\n}\n', "1:20", "17 PointerUse", "write an array, as `message[]`"),
+    ('static const char *message = "hello";\nint main(void)\n{\n    putchar(message[0]);\n    return 0;\n}\n', "1:20", "17 PointerUse", "write an array, as `message[]`"),
     ("int m[3][3];\nint main(void)\n{\n    return m[1][1];\n}\n", "1:9", "5 Syntax", "arrays have one dimension"),
-    ("int main(void)\n{\n    int x = 5;\n    int *p = &x;\n    return *p;\n}\n", "4:14", "17 PointerUse", "`&` takes an element"),
+    ("int main(void)\n{\n    int x = 5;\n    int *p = &x;\n    *p = 6;\n    return x;\n}\n", "4:14", "17 PointerUse", "`&` takes an element"),
     ("int add(int a, int b)\n{\n    return a + b;\n}\nint main(void)\n{\n    return add(1, 2, 3);\n}\n", "7:12", "12 ArgumentCount",
      "`add` has 2 parameters, and is called with 3 arguments"),
     ('int main(void)\n{\n    return "abc";\n}\n', "3:5", "17 PointerUse", "a function's result is a number"),
-    ("void f(void)\n{\n    return 1;\n}\nint main(void) { return 0; }\n", "3:5", "10 Type", "a `void` function has no result"),
+    ("void f(void)\n{\n    return 1;\n}\nint g(void)\n{\n    return;\n}\nint main(void)\n{\n    f();\n    return g();\n}\n", "3:5", "10 Type", "a `void` function has no result"),
     ("int g(void)\n{\n    return;\n}\nint main(void) { return 0; }\n", "3:5", "10 Type", "this function has a result"),
-    ("int main(void)\n{\n    if (1) {\n        putchar(65);\n    return 0;\n}\n", "7:1", "5 Syntax", "the file ends inside a block: a `}` is missing"),
+    ("int main(void)\n{\n    if (1) {\n        return 1;\n    return 0;\n}\n", "7:1", "5 Syntax", "the file ends inside a block: a `}` is missing"),
     ("int main(void)\n{\n    putchar((1 + 2);\n    return 0;\n}\n", "3:20", "5 Syntax", "a `)` is missing before this `;`"),
-    ("int main(void)\n{\n    switch (1) {\n        int x;\n    case 1:\n        x = 1;\n    }\n    return 0;\n}\n", "4:9", "5 Syntax",
+    ("int main(void)\n{\n    switch (1) {\n        int x;\n    case 1:\n        x = 1;\n        return x;\n    }\n    return 0;\n}\n", "4:9", "5 Syntax",
      "no declaration stands directly in a switch's block"),
     ("int main(void)\n{\n    int x = 1;\n    int x = 2;\n    return x;\n}\n", "4:9", "8 Redeclared", "`x` is declared already"),
     ("int main(void)\n{\n    int m = 0xFFFFFFFF;\n    return m;\n}\n", "3:13", "2 BadNumber", "the same 32 bits are `-1`"),
@@ -65,7 +66,7 @@ PLAIN = (
     ("#include <stdio.h>\nint main(void) { return 0; }\n", "1:1", "1 BadByte", "is for a preprocessor, and none was run"),
     ("#define N 10\nint a[N];\nint main(void) { return 0; }\n", "1:1", "1 BadByte", "is for a preprocessor, and none was run"),
     ("int main(void)\n{\n    /* oops\n    return 0;\n}\n", "3:5", "3 Unclosed", "a `*/` is missing"),
-    ("int main(void)\n{\n    int gr\u00f6\u00dfe = 3;\n    return 0;\n}\n", "3:11", "1 BadByte", "names have the letters a to z"),
+    ("int main(void)\n{\n    int gr\u00f6\u00dfe = 3;\n    return gr\u00f6\u00dfe;\n}\n", "3:11", "1 BadByte", "names have the letters a to z"),
 )
 MACROS = "#define TWICE(x) ((x) + (x))\nint main(void)\n{\n    int   one = 1; /* spaces */ int    two = TWICE(one) + three;\n    return two;\n}\n"
 FIRST = '#include <stdio.h>\n\nint main(void)\n{\n    int c;\n\n    while ((c = getchar()) != EOF)\n        putchar(c);\n    return 0;\n}\n'
@@ -135,6 +136,15 @@ class Compiling(unittest.TestCase):
         self.assertEqual((limit.returncode, limit.stderr), (3, "pcc-cc: limit 22 Frame main 16388\n"))
         with open(f"{self.room}/a.c", encoding="utf-8") as file:
             self.assertIn("main", file.read())
+
+    def test_limit_on_the_size_of_a_file_refuses_a_write(self):
+        self.call("int main(void) { return 0; }\n", "-o", "copy")
+        size = os.path.getsize(f"{self.room}/copy.map")
+        for least, name in ((size - 1, "copy.map"), (size, "copy")):
+            limits = (least, resource.RLIM_INFINITY)
+            done = subprocess.run([f"{TOP}/bin/pcc", "compile", "-o", "copy", "a.c"], cwd=self.room, capture_output=True, text=True, check=False,
+                                  preexec_fn=lambda: resource.setrlimit(resource.RLIMIT_FSIZE, limits))
+            self.assertEqual((done.returncode, done.stderr), (5, f"write fault {name}\n"))
 
 
 if __name__ == "__main__":

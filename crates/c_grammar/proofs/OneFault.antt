@@ -42,6 +42,8 @@ one_kind most faults.Syntax faults.Syntax a (x ∷ xs) f g = refl
 one_kind most faults.TooDeep faults.TooDeep a (x ∷ xs) f g = refl
 one_kind most faults.Syntax faults.TooDeep a (x ∷ xs) f g = absurd (f.1 g.2.0 g.2.1)
 one_kind most faults.TooDeep faults.Syntax a (x ∷ xs) f g = absurd (g.1 f.2.0 f.2.1)
+one_kind most faults.Syntax _ a (x ∷ xs) f g = absurd g
+one_kind most faults.TooDeep _ a (x ∷ xs) f g = absurd g
 one_kind most _ _ a (x ∷ xs) f g = absurd f
 
 -- the one place is at the end of what both have in common

@@ -1,5 +1,5 @@
 -- The faults of small lists of tokens.
-use Rattle.std.proofs.Common.{◌≡◌, ℕ, suc, ◌≤◌, max, pos, false, List, [], ◌∷◌, ◌++◌, length, Option, Some, None, refl}
+use Rattle.std.proofs.Common.{◌≡◌, ℕ, suc, ◌≤◌, pos, false, List, [], ◌∷◌, ◌++◌, length, Option, Some, None, refl}
 use Rattle.std.proofs.Common.{ap, sym, ◌∙◌, codes, arith, append_assoc, length-append}
 use Rattle.pcc_base.specs.declared.span.Span.{Span}
 use Rattle.pcc_base.specs.declared.fault.FaultKind.TheVariants.{Syntax, TooDeep}
@@ -13,8 +13,7 @@ use Rattle.c_syntax.specs.Marks.{ident, number, mark, word, specifier_word}
 use Rattle.c_syntax.specs.Expressions.{Star, Expr, Identifier, Number, Text, Parenthesised, Call, Index, Postfix, Prefix}
 use Rattle.c_syntax.specs.Expressions.{Unary, Cast, Binary, Conditional, Assignment}
 use Rattle.c_syntax.specs.ExpressionTokens.{expr_tokens, expr_height, specifiers_tokens, pointer_tokens, IsExpr}
-use Rattle.c_syntax.specs.ExpressionTokens.{IsSpecifiers}
-use Rattle.c_syntax.specs.Declarations.{ArrayTree, PartTree, Plain, Array, Function, DeclaratorTree, ValueTree, ItemTree}
+use Rattle.c_syntax.specs.Declarations.{PartTree, Plain, Array, Function, DeclaratorTree, ValueTree, ItemTree}
 use Rattle.c_syntax.specs.Declarations.{DeclarationTree}
 use Rattle.c_syntax.specs.DeclarationTokens.{declarator_tokens, part_tokens, maybe_expr_tokens, value_tokens, item_tokens}
 use Rattle.c_syntax.specs.DeclarationTokens.{followed, declaration_tokens, part_height, maybe_expr_height}

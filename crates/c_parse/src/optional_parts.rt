@@ -60,9 +60,8 @@ pub(crate) fn take_name(cursor: &mut Cursor<'_>) -> Result<Option<Identifier>, N
             let name = name.copy()?;
             Ok(Some(Identifier { name, at: first.at }))
         }
-        TokenKind::Word(_) | TokenKind::Number { .. } | TokenKind::Text(_) | TokenKind::Mark(_) => Ok(
-            None,
-        ),
+        TokenKind::Word(_) | TokenKind::Number { .. } | TokenKind::Text(_) | TokenKind::Mark(_) =>
+            Ok(None),
     }
 }
 

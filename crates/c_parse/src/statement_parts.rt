@@ -237,7 +237,9 @@ fn begins_item(kind: &TokenKind) -> bool {
         TokenKind::Mark(mark) => *mark == Punct::LeftBrace
             || *mark == Punct::Semicolon
             || begins_expression(kind),
-        TokenKind::Ident(_) | TokenKind::Number { .. } | TokenKind::Text(_) => begins_expression(kind),
+        TokenKind::Ident(_) | TokenKind::Number { .. } | TokenKind::Text(_) => begins_expression(
+            kind,
+        ),
     }
 }
 

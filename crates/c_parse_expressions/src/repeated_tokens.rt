@@ -93,8 +93,10 @@ impl Cursor<'_> {
                     at: first.at,
                 }))
             }
-            TokenKind::Word(_) | TokenKind::Ident(_) | TokenKind::Number { .. } | TokenKind::Mark(_) =>
-                Ok(None),
+            TokenKind::Word(_)
+            | TokenKind::Ident(_)
+            | TokenKind::Number { .. }
+            | TokenKind::Mark(_) => Ok(None),
         }
     }
 

@@ -1,3 +1,4 @@
+mod Allocated
 mod Example
 mod Table
 mod Ends

@@ -4,13 +4,14 @@ ghost use Rattle.allocator.specs.PointMaps.{bytes_of_arrays};
 ghost use Rattle.allocator.specs.SplitForms.{FixedOperandsDie, placed_count};
 ghost use Rattle.flow_graph.specs.Graphs.{with_op, FitsOp, IsEnded};
 ghost use Rattle.flow_graph.specs.Liveness.{BeginsWith};
+ghost use Rattle.flow_graph.specs.Lives.{AreLive, at_point};
 ghost use Rattle.flow_graph.specs.Sizes.{most_words};
-ghost use Rattle.std.specs.Prelude.{◌≡◌, ◌<◌, ◌≤◌, ◌+◌, ◌*◌, length};
+ghost use Rattle.std.specs.Prelude.{◌≡◌, ◌<◌, ◌≤◌, ◌+◌, ◌*◌, [], length};
 
 use crate::expected::expect;
 use crate::rows::expect_printed;
 use allocator::{allocate, split};
-use flow_graph::{Comparison, Graph, Op, Words};
+use flow_graph::{Comparison, Graph, LiveSets, Op, Words};
 use flow_liveness::{live, next_use};
 use ia32_insn::Item;
 use ia32_select::select;
@@ -29,22 +30,33 @@ fn append(rt: &impl Abort, graph: &mut Graph, block: u32, op: Op)
     graph.append(block, op).expect(rt, "a point");
 }
 
-/// The items of a graph over the map that `allocate` makes of it. Nothing is live before its first point.
-fn items_of(rt: &impl Abort, alloc: Global, graph: &Graph) -> Result<Vec<Item>, NoMemory>
-    requires dies { FixedOperandsDie graph.now }
-    requires few { placed_count graph.now < 2147483648 }
+/// Ends the test where a variable is listed.
+fn expect_none(rt: &impl Abort, listed: &[u32])
+    ensures { listed.now ≡ [] }
+{
+    match listed {
+        [] => {}
+        [_, ..] => panic!(rt; "a variable is live"),
+    }
+}
+
+/// The items of a graph over the map that `allocate` makes of it; nothing is live before its first point.
+fn items_of(alloc: Global, graph: &Graph, sets: &LiveSets) -> Result<Vec<Item>, NoMemory>
+    requires live { AreLive graph.now sets.now }
+    requires none { at_point sets.now.before 0 ≡ [] }
     requires first { BeginsWith graph.now 0 0 }
     requires within { 0 < length graph.now.ops }
+    requires dies { FixedOperandsDie graph.now }
+    requires few { placed_count graph.now < 2147483648 }
+    requires room { 16 + 4 * length graph.now.widths + bytes_of_arrays graph.now.arrays < 2147483648 }
     requires small { 24 + 4 * length graph.now.widths + 4 * most_words graph.now.ops + bytes_of_arrays graph.now.arrays
         ≤ 16384 }
     requires labels { length graph.now.blocks + length graph.now.ops < 4294967296 }
 {
-    let sets = live(alloc, graph)?;
-    assert!(rt; sets.before(0).is_empty());
-    let form = split(alloc, graph, &sets)?;
+    let form = split(alloc, graph, sets)?;
     let distances = next_use(alloc, graph)?;
-    let map = allocate(alloc, &form, &distances)?;
-    let items = select(alloc, graph, &map)?;
+    let places = allocate(alloc, &form, &distances)?;
+    let items = select(alloc, graph, &places)?;
     Ok(items)
 }
 
@@ -117,7 +129,9 @@ fn call_clear_and_branch(rt: HostRuntime) {
     append(&rt, &mut graph, 0, Op::Clear(0));
     append(&rt, &mut graph, 0, Op::Branch(Comparison::Lt, 0, 1, 1, 0));
     append(&rt, &mut graph, 1, Op::Return(None));
-    let items = items_of(&rt, rt.alloc(), &graph).expect(&rt, "the items");
+    let sets = live(rt.alloc(), &graph).expect(&rt, "live sets");
+    expect_none(&rt, sets.before(0));
+    let items = items_of(rt.alloc(), &graph, &sets).expect(&rt, "the items");
     let counts = (items.len(), ITEMS.lines().count());
     expect(&rt, &counts, &(48, 48), "how many items");
     for (item, row) in items.iter().zip(ITEMS.lines()) {

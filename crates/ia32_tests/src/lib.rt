@@ -1,7 +1,8 @@
 //! Tests of the public calls of the crates `ia32_..`: what registers, memory and arithmetic do (`registers`,
 //! `memory`, `arithmetic`), the bytes of instructions there and back (`spellings`, `decoding`), the sections of items
-//! (`items`), the items of a function (`functions`), and runs of images (`machine`); and of `elf_image` (`images`),
-//! `elf_link` (`linking`) and `map_text` (`maps`, `map_lines`).
+//! (`items`), the items of a function (`functions`), and runs of images (`machine`); of `parallel_copies`, whose
+//! instructions the machine runs (`copies`); and of `elf_image` (`images`), `elf_link` (`linking`) and `map_text`
+//! (`maps`, `map_lines`).
 //!
 //! They stand in a crate of their own since a crate with tests is proved a second time; this one needs only
 //! what those crates promise.
@@ -9,6 +10,8 @@
 
 #[cfg(test)]
 mod arithmetic;
+#[cfg(test)]
+mod copies;
 #[cfg(test)]
 mod decoding;
 #[cfg(test)]

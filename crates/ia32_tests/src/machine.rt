@@ -22,7 +22,7 @@ const TEXT: u32 = 0x0804_8000;
 const EXIT: [u8; 12] = [0xB8, 1, 0, 0, 0, 0xBB, 44, 1, 0, 0, 0xCD, 0x80];
 
 /// A machine with one segment of this size, which begins with these bytes.
-fn machine(rt: &impl Abort, alloc: Global, text: &[u8], size: u32, write: bool) -> Machine
+pub fn machine(rt: &impl Abort, alloc: Global, text: &[u8], size: u32, write: bool) -> Machine
     requires fits { length text.now ≤ size }
     requires small { size ≤ 4096 }
 {

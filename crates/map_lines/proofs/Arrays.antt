@@ -27,7 +27,8 @@ use Rattle.ia32_laws.proofs.Objects.{object-in, objects-apart}
 use Rattle.ia32_laws.proofs.Regions.{IsArrayOf, array-above}
 use Rattle.ia32_laws.proofs.Zones.{activation-at, calls-above, frame_size}
 use Rattle.map_text.specs.Maps.{Map, MapArray, MapObject}
-use Rattle.map_text.specs.Marks.{Frame, array_in, array_named, arrays_below, arrays_of, in_frame, named_in_frames}
+use Rattle.map_text.specs.Marks.{Frame, array_in, array_named, arrays_below, arrays_of, in_frame, named_from}
+use Rattle.map_text.specs.Marks.{named_in_frames}
 use Rattle.map_text.specs.Marks.{objects_of, place_of, static_or}
 use Rattle.map_lines.specs.Parts.{arrays_at, objects_at}
 use Rattle.map_lines.specs.VisitsLaws.{frames_at}
@@ -215,29 +216,42 @@ frame-named : (m : Map) (frames : List Frame) (word : ℕ) (array : ArrayName) �
 frame-named m frames zero array some none is = absurd (omega (arith, some))
 frame-named m frames (suc n) array some none is = ap (static_or (named_in_frames m (suc n) frames)) none ∙ is
 
--- the call whose array it is, where no younger one has an array there
-named-at : (m : Map) (word k : ℕ) (active : List Activation) (frames : List ℕ) (i : ℕ) (a : Activation) (frame : ℕ)
-    → slice_get active i ≡ Some a → slice_get frames i ≡ Some frame
-    → array_in 0 word frame (arrays_of m (Some a.function)) ≡ Some k
-    → ((j : ℕ) (b : Activation) (e : ℕ) → j < i → slice_get active j ≡ Some b → slice_get frames j ≡ Some e
+-- calls none of which has an array there
+none-from : (m : Map) (word : ℕ) (name : ArrayName) (active : List Activation) (frames : List ℕ)
+    → ((j : ℕ) (b : Activation) (e : ℕ) → slice_get active j ≡ Some b → slice_get frames j ≡ Some e
     → array_in 0 word e (arrays_of m (Some b.function)) ≡ None)
-    → named_in_frames m word (frames_at active frames) ≡ InFrame k (length active - i)
-named-at m word k [] frames i a frame is_active at_frame here younger = absurd (none-some a is_active)
-named-at m word k (b ∷ active) [] i a frame is_active at_frame here younger = absurd (none-some frame at_frame)
-named-at m word k (b ∷ active) (e ∷ frames) zero a frame is_active at_frame here younger =
+    → named_from m word name (frames_at active frames) ≡ name
+none-from m word name [] frames none = refl
+none-from m word name (b ∷ active) [] none = refl
+none-from m word name (b ∷ active) (e ∷ frames) none =
+    ap (λ (o : Option ℕ). named_from m word (in_frame (length (b ∷ active)) name o) (frames_at active frames))
+    (none 0 b e refl refl)
+    ∙ none-from m word name active frames (λ j c f one two. none (suc j) c f one two)
+
+-- the call whose array it is, where no older one has an array there
+named-at : (m : Map) (word k : ℕ) (name : ArrayName) (active : List Activation) (frames : List ℕ) (i : ℕ) (a : Activation)
+    (frame : ℕ) → slice_get active i ≡ Some a → slice_get frames i ≡ Some frame
+    → array_in 0 word frame (arrays_of m (Some a.function)) ≡ Some k
+    → ((j : ℕ) (b : Activation) (e : ℕ) → i < j → slice_get active j ≡ Some b → slice_get frames j ≡ Some e
+    → array_in 0 word e (arrays_of m (Some b.function)) ≡ None)
+    → named_from m word name (frames_at active frames) ≡ InFrame k (length active - i)
+named-at m word k name [] frames i a frame is_active at_frame here older = absurd (none-some a is_active)
+named-at m word k name (b ∷ active) [] i a frame is_active at_frame here older = absurd (none-some frame at_frame)
+named-at m word k name (b ∷ active) (e ∷ frames) zero a frame is_active at_frame here older =
     let mine : array_in 0 word e (arrays_of m (Some b.function)) ≡ Some k =
     ap (λ (c : Activation). array_in 0 word e (arrays_of m (Some c.function))) (same_Some b a is_active)
     ∙ ap (λ (f : ℕ). array_in 0 word f (arrays_of m (Some a.function))) (same_Some e frame at_frame) ∙ here in
     let same : length (b ∷ active) ≡ length (b ∷ active) - 0 = omega arith in
-    ap (in_frame (length (b ∷ active)) (named_in_frames m word (frames_at active frames))) mine
+    ap (λ (o : Option ℕ). named_from m word (in_frame (length (b ∷ active)) name o) (frames_at active frames)) mine
+    ∙ none-from m word (InFrame k (length (b ∷ active))) active frames
+    (λ j c f one two. older (suc j) c f (omega arith) one two)
     ∙ ap (InFrame k) same
-named-at m word k (b ∷ active) (e ∷ frames) (suc i) a frame is_active at_frame here younger =
-    let rest = named-at m word k active frames i a frame is_active at_frame here
-    (λ j c f lt one two. younger (suc j) c f (omega (arith, lt)) one two) in
+named-at m word k name (b ∷ active) (e ∷ frames) (suc i) a frame is_active at_frame here older =
+    let rest = named-at m word k
+    (in_frame (length (b ∷ active)) name (array_in 0 word e (arrays_of m (Some b.function)))) active frames i a frame
+    is_active at_frame here (λ j c f lt one two. older (suc j) c f (omega (arith, lt)) one two) in
     let same : length active - i ≡ length (b ∷ active) - suc i = less (length active) i in
-    ap (in_frame (length (b ∷ active)) (named_in_frames m word (frames_at active frames)))
-    (younger 0 b e (omega arith) refl refl)
-    ∙ rest ∙ ap (InFrame k) same
+    rest ∙ ap (InFrame k) same
   where
     less : (n i : ℕ) → n - i ≡ suc n - suc i
     less n i = omega arith
@@ -299,7 +313,6 @@ frame-found program code m input g s k depth word has state shown h =
     (activation-at code (active_of g) c a state.active h.of_depth).1.function in
     let mine = array-of code g shown.frames k depth word state h in
     let above = array-above code input g s c k word mine.0 h.elements supported state shown mine.1 in
-    let inside = (supported.supports f lt).arrays.inside k h.below mine.1.array mine.1.declared h.placed in
     let address = h.address in
     let zero-first : 0 + k ≡ k = omega arith in
     let here : array_in 0 word h.frame (arrays_of m (Some f)) ≡ Some k =
@@ -317,15 +330,19 @@ frame-found program code m input g s k depth word has state shown h =
     let some : 0 < word = omega (arith, above) in
     let back : length (active_of g) - c ≡ depth = again (length (active_of g)) depth h.youngest in
     frame-named m (frames_at (active_of g) shown.frames) word (InFrame k depth) some no-object
-    (named-at m word k (active_of g) shown.frames c a h.frame h.of_depth h.at_frame here
+    (named-at m word k Unknown (active_of g) shown.frames c a h.frame h.of_depth h.at_frame here
     (λ j b e less one two.
     let under = (activation-at code (active_of g) j b state.active one).1.function in
-    let higher = calls-above code input g s j c b a e h.frame shown less
-    (record { is_active = one; at_frame = two }) (record { is_active = h.of_depth; at_frame = h.at_frame }) in
+    let higher = calls-above code input g s c j a b h.frame e shown less
+    (record { is_active = h.of_depth; at_frame = h.at_frame }) (record { is_active = one; at_frame = two }) in
+    let arrays = (supported.supports b.function under).arrays in
     ap (array_in 0 word e) (map-arrays program code m b.function has under)
     ∙ array-none 0 word e (placement_of code b.function).arrays
-    (λ i other at. no-nearer e word other h.below h.frame (4 * length b.arguments) (frame_size code a) higher address
-    inside.high))
+    (λ i other at.
+    let declared = element-at (flow_at code.program b.function).arrays i
+    (omega (arith, slice_get_within (placement_of code b.function).arrays i other at, arrays.as_many)) in
+    no-older e word other h.below h.frame (4 * length a.arguments) (frame_size code b) higher address
+    (arrays.inside i other declared.0 declared.1 at).high))
     ∙ ap (InFrame k) back)
   where
     equal : (w o b f : ℕ) → w + o ≡ f → w + b ≡ f → o ≡ b
@@ -337,8 +354,8 @@ frame-found program code m input g s k depth word has state shown h =
     again : (n d : ℕ) → d ≤ n → n - (n - d) ≡ d
     again n d h = omega arith
 
-    no-nearer : (e w o b f l z : ℕ) → e + 8 + l + z ≤ f → w + b ≡ f → b + 4 ≤ z → w + o ≢ e
-    no-nearer e w o b f l z h i j = omega arith
+    no-older : (e w o b f l z : ℕ) → f + 8 + l + z ≤ e → w + b ≡ f → o + 4 ≤ z → w + o ≢ e
+    no-older e w o b f l z h i j = omega arith
 
 pub arrays-told : (program : Program) (code : Code) (m : Map) (input : List ℕ) (g : graph.State) (s : machine.State)
     (array : ArrayName) (word : ℕ) → Tells program code m → IsState code.program g → (shown : Shows code input g s)

@@ -171,12 +171,16 @@ abbrev pub in_frame : ℕ → ArrayName → Option ℕ → ArrayName
 in_frame depth otherwise None = otherwise
 in_frame depth otherwise (Some k) = InFrame k depth
 
--- the frame array at an address
+-- the frame array at an address, where the younger frames have one of this name, or none
+abbrev pub named_from : Map → ℕ → ArrayName → List Frame → ArrayName
+named_from m address younger [] = younger
+named_from m address younger (frame ∷ frames) =
+    named_from m address (in_frame frame.depth younger (array_in 0 address frame.address (arrays_of m frame.function)))
+    frames
+
+-- the frame array at an address: of several, that of the least depth
 abbrev pub named_in_frames : Map → ℕ → List Frame → ArrayName
-named_in_frames m address [] = Unknown
-named_in_frames m address (frame ∷ frames) =
-    in_frame frame.depth (named_in_frames m address frames)
-    (array_in 0 address frame.address (arrays_of m frame.function))
+named_in_frames m address frames = named_from m address Unknown frames
 
 abbrev pub static_or : ArrayName → Option ℕ → ArrayName
 static_or otherwise None = otherwise

@@ -21,3 +21,4 @@ pub mod OneEnd
 pub mod Counting
 pub mod Selftesting
 pub mod SelftestStatus
+mod Stopping

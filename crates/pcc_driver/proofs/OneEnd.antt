@@ -106,7 +106,7 @@ unseen-on seen rest visits s (moves.Halts end) o h went =
     (stands [] s end, refl, sym (ap (λ (x : Outcome). x.end) went))
 
 -- a run with visits ends as one without them
-unseen : (visits : machine.State → List Visit) (m : ℕ) (s : machine.State) (o : Outcome) → Runs visits m s o
+pub unseen : (visits : machine.State → List Visit) (m : ℕ) (s : machine.State) (o : Outcome) → Runs visits m s o
     → (quiet : Outcome) × Runs no_visits m s quiet × (quiet.end ≡ o.end)
 unseen visits zero s o run = (stands [] s Goes, refl, sym (ap (λ (x : Outcome). x.end) run))
 unseen visits (suc m) s o (moved, steps, on) =

@@ -12,3 +12,4 @@ pub mod Solutions
 pub mod Evaluations
 pub mod Removals
 pub mod Selftests
+pub mod Stops

@@ -25,10 +25,12 @@ mod selftest;
 mod selftest_lines;
 mod selftest_run;
 mod solve;
+mod stops;
 mod top;
 mod typed_sources;
 
 pub use evaluated::eval;
 pub use reading::{Unread, read_sources};
+pub use stops::images_never_stop;
 pub use top::pcc;
 pub use typed_sources::unread_report;

@@ -2,8 +2,8 @@
 
 use crate::expected::expect;
 use crate::runs::{
-    Answer, expect_answer, expect_command, expect_commands, expect_runs, expect_told, files_with,
-    no_files, put, run_line,
+    Answer, expect_command, expect_commands, expect_runs, expect_told, files_with, no_files, put,
+    run_line,
 };
 use crate::tables::{cells, rows_of, unfolded};
 use elf_image::{Image, TEXT_ADDRESS, write_image};
@@ -32,9 +32,9 @@ fn compiles_and_runs_small(rt: HostRuntime) {
     expect_runs(&rt, rt.alloc(), SMALL);
 }
 
-/// Files in memory with the source of a program that ends with status 44, whose call with this number fails.
-fn small_files(rt: &impl Abort, alloc: Global, failing_call: u64) -> MemFiles {
-    files_with(rt, alloc, "int main(void){return 300;}", failing_call)
+/// Files in memory with the source of a program that ends with status 44.
+fn small_files(rt: &impl Abort, alloc: Global) -> MemFiles {
+    files_with(rt, alloc, "int main(void){return 300;}")
 }
 
 /// Command lines over one source, in their order: the status and the line, and nothing on the output.
@@ -58,7 +58,7 @@ eval 1 2 3 4 5 6 7 8 9 10 11 12 13 14 15 16 17 18 => 3 limit 23 Files 18$";
 #[test]
 fn refuses_words_and_names(rt: HostRuntime) {
     let alloc = rt.alloc();
-    let mut files = small_files(&rt, alloc, 0);
+    let mut files = small_files(&rt, alloc);
     expect_commands(&rt, alloc, &mut files, LINES);
     let map = files.content("a.map").unwrap_or(b"");
     let is_map = map.starts_with(b"pcc map 1\n") && map.ends_with(b"end\n");
@@ -90,7 +90,7 @@ selftest 1 => -o <NAME>
 selftest -o g => <N>
 selftest -o g x => invalid value 'x'
 gcc a.c => 'gcc'
---help =>   compile  Compiles C files =>   solve\x20
+--help =>   compile   Compiles C files =>   solve\x20
 run --help => --steps <N> => [default: 1000000000]
 compile -h => -o <NAME> => its map is NAME.map";
 
@@ -98,7 +98,7 @@ compile -h => -o <NAME> => its map is NAME.map";
 #[test]
 fn tells_usage(rt: HostRuntime) {
     let alloc = rt.alloc();
-    let mut files = small_files(&rt, alloc, 0);
+    let mut files = small_files(&rt, alloc);
     for row in rows_of(&rt, USAGES) {
         let (line, parts) = cells(&rt, row);
         let (wrong, more) = parts.split_once(" => ").unwrap_or((parts, COMMANDS));
@@ -134,7 +134,7 @@ compile -o p goto.c syntax.c => 1 goto.c:1:13: 6 Unsupported goto$";
 #[test]
 fn refuses_several_sources(rt: HostRuntime) {
     let alloc = rt.alloc();
-    let mut files = small_files(&rt, alloc, 0);
+    let mut files = small_files(&rt, alloc);
     for &(name, text) in &SOURCES {
         put(&rt, &mut files, name, text.as_bytes());
     }
@@ -142,51 +142,6 @@ fn refuses_several_sources(rt: HostRuntime) {
         expect_command(&rt, alloc, &mut files, row);
         let nothing = files.content("p").is_none() && files.content("p.map").is_none();
         expect(&rt, &nothing, &true, row);
-    }
-}
-
-/// The number of the call that fails, the status and the line, and whether there is a map then.
-const FAILING_CALLS: [(u64, u8, &str, bool); 4] = [
-    (1, 4, "read fault a.c\n", false),
-    (2, 5, "write fault a.map\n", false),
-    (3, 5, "write fault a\n", true),
-    (4, 0, "", true),
-];
-
-/// The call of the store that fails is named, and what was written before it stands.
-#[test]
-fn names_faults(rt: HostRuntime) {
-    let alloc = rt.alloc();
-    for &(call, status, err, map_stands) in &FAILING_CALLS {
-        let mut files = small_files(&rt, alloc, call);
-        let answer = run_line(&rt, alloc, "compile -o a a.c", &mut files, 0);
-        expect_answer(&rt, &answer, "", status, err, "compile");
-        let map = (call, files.content("a.map").is_some());
-        expect(&rt, &map, &(call, map_stands), "a map, by the call");
-    }
-}
-
-/// Commands over one source and one board, where the first call of standard error fails: the status, and what stands on
-/// the output.
-const REFUSED_LINES: &str = "\
-6 rows
-compile -o a a.c => 0
-solve b => 0 => none$
-run a => 5
-eval a.c => 5
-solve a => 5
-solve c => 5";
-
-/// A command that puts no line asks nothing of standard error, and another one tells that it refused the line.
-#[test]
-fn tells_refused_lines(rt: HostRuntime) {
-    let alloc = rt.alloc();
-    let mut files = small_files(&rt, alloc, 0);
-    put(&rt, &mut files, "b", b"areas\npieces X1\n");
-    for row in rows_of(&rt, REFUSED_LINES) {
-        let (words, told) = cells(&rt, row);
-        let answer = run_line(&rt, alloc, words, &mut files, 1);
-        expect_told(&rt, alloc, &answer, told, row);
     }
 }
 
@@ -284,31 +239,47 @@ const CHANGED_BYTES: &str = "\
 72 00 00 00 00 => 7 not an image$
 104 FF FF FF FF => 7 not an image$";
 
+/// The same of the image that `compile` writes of a program that ends with status 44, whose text has fewer than 4,096
+/// bytes. At 32 stands where section headers begin.
+const COMPILED_BYTES: &str = "\
+9 rows
+0 7F => 0 exit 44$
+44 00 00 => 7 not an image$
+44 FF FF => 7 not an image$
+72 00 00 00 00 => 7 not an image$
+104 FF FF FF FF => 7 not an image$
+60 00 90 04 08 => 7 not an image$
+7 03 00 00 00 00 00 00 00 00 02 00 03 00 01 00 00 00 00 80 04 08 34 00 00 00 FF FF FF FF => 0 exit 44$
+76 04 => 9 stopped access 0x08048000$
+24 00 00 00 00 => 9 stopped access 0x00000000$";
+
+/// The image with each change of a table is refused, or runs as the row says. Without its last byte it is refused, and
+/// so is its first header without its last one.
+fn expect_changes(rt: &impl Abort, alloc: Global, image: &[u8], table: &str) {
+    let mut files = no_files(rt, alloc, 0);
+    for row in rows_of(rt, table) {
+        let (change, told) = cells(rt, row);
+        let changed = with_change(rt, alloc, image, change);
+        put(rt, &mut files, "b", changed.as_slice());
+        let answer = run_line(rt, alloc, "run b", &mut files, 0);
+        expect_told(rt, alloc, &answer, told, row);
+    }
+    for count in [51, image.len().saturating_sub(1)] {
+        put(rt, &mut files, "b", image.get(..count).unwrap_or(b""));
+        expect_command(rt, alloc, &mut files, "run b => 7 not an image$");
+    }
+}
+
 /// A changed image is refused, or stops where it no longer has a step.
 #[test]
 fn runs_changed_images(rt: HostRuntime) {
     let alloc = rt.alloc();
-    let mut files = no_files(&rt, alloc, 0);
     let image = small_image(&rt, alloc);
-    for row in rows_of(&rt, CHANGED_BYTES) {
-        let (change, told) = cells(&rt, row);
-        let changed = with_change(&rt, alloc, image.as_slice(), change);
-        put(&rt, &mut files, "b", changed.as_slice());
-        let answer = run_line(&rt, alloc, "run b", &mut files, 0);
-        expect_told(&rt, alloc, &answer, told, row);
-    }
-}
-
-/// An image without its last byte is refused, and so is a header without its last one.
-#[test]
-fn refuses_images_that_end_too_early(rt: HostRuntime) {
-    let alloc = rt.alloc();
-    let mut files = no_files(&rt, alloc, 0);
-    let image = small_image(&rt, alloc);
-    for count in [51, image.len().saturating_sub(1)] {
-        put(&rt, &mut files, "b", image.get(..count).unwrap_or(b""));
-        expect_command(&rt, alloc, &mut files, "run b => 7 not an image$");
-    }
+    expect_changes(&rt, alloc, image.as_slice(), CHANGED_BYTES);
+    let mut files = small_files(&rt, alloc);
+    expect_command(&rt, alloc, &mut files, "compile -o a a.c => 0");
+    let compiled = files.content("a").unwrap_or(b"");
+    expect_changes(&rt, alloc, compiled, COMPILED_BYTES);
 }
 
 /// Commands over files of the system: the status and the line, and nothing on the output.

@@ -13,7 +13,7 @@ use std::process::Abort;
 
 /// A program with this input tells this where it is evaluated.
 fn expect_evaluation(rt: &impl Abort, alloc: Global, source: &str, input: &str, told: &str) {
-    let mut files = files_with(rt, alloc, source, 0);
+    let mut files = files_with(rt, alloc, source);
     let input = input_of(rt, alloc, input, 0);
     let answer = run_over(rt, alloc, "eval a.c", &mut files, input, 0);
     expect_told(rt, alloc, &answer, told, source);
@@ -72,7 +72,7 @@ run --steps 0 a => 10 budget 0$";
 #[test]
 fn stops_at_budgets(rt: HostRuntime) {
     let alloc = rt.alloc();
-    let mut files = files_with(&rt, alloc, "int main(void){for(;;)putchar('x');}", 0);
+    let mut files = files_with(&rt, alloc, "int main(void){for(;;)putchar('x');}");
     expect_commands(&rt, alloc, &mut files, BUDGETS);
 }
 
@@ -91,7 +91,7 @@ run p => 0 exit 41$";
 fn links_files(rt: HostRuntime) {
     let alloc = rt.alloc();
     let first = "int f(int n); int main(void){return f(20);}";
-    let mut files = files_with(&rt, alloc, first, 0);
+    let mut files = files_with(&rt, alloc, first);
     put(&rt, &mut files, "b.c", b"int f(int n){return n*2+1;}");
     expect_commands(&rt, alloc, &mut files, TWO_FILES);
 }
@@ -100,7 +100,7 @@ fn links_files(rt: HostRuntime) {
 #[test]
 fn names_input_faults(rt: HostRuntime) {
     let alloc = rt.alloc();
-    let mut files = files_with(&rt, alloc, WORD_COUNTER, 0);
+    let mut files = files_with(&rt, alloc, WORD_COUNTER);
     expect_command(&rt, alloc, &mut files, "compile -o a a.c => 0");
     for words in ["eval a.c", "run a"] {
         let input = input_of(&rt, alloc, "one two\nthree\n", 2);

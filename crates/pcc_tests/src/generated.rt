@@ -2,9 +2,7 @@
 //! `selftest` puts of them.
 
 use crate::expected::expect;
-use crate::runs::{
-    expect_answer, expect_command, expect_run, files_with, no_files, run_line, run_refused,
-};
+use crate::runs::{expect_command, expect_run, files_with, no_files, run_line};
 use crate::tables::{cells, rows_of};
 use pcc_outside::MemFiles;
 use std::alloc::{AllocError, Global};
@@ -51,7 +49,7 @@ fn first_constant(text: &str) -> &str {
 fn expect_digits(rt: &impl Abort, alloc: Global, source: &str, turns: &str, digits: &str) {
     let turns: u64 = turns.parse().expect(rt, turns);
     let spent = turns.saturating_sub(1);
-    let mut files = files_with(rt, alloc, source, 0);
+    let mut files = files_with(rt, alloc, source);
     let ends: Result<String, AllocError> = format!(in alloc;
         "eval --turns {turns} a.c => 0 exit 0$ => {digits}$"
     );
@@ -95,26 +93,6 @@ fn compiles_the_generated(rt: HostRuntime) {
     let source = std::str::from_utf8(text.as_slice()).expect(&rt, "the text");
     expect(&rt, &source.starts_with(BEGINNING), &true, "the beginning");
     expect_run(&rt, alloc, source, "", "0 exit 0$ => 849c5e22$");
-}
-
-/// An output that fails is told, and has nothing.
-#[test]
-fn tells_a_refused_program(rt: HostRuntime) {
-    let alloc = rt.alloc();
-    let mut files = no_files(&rt, alloc, 0);
-    let answer = run_refused(&rt, alloc, "gen 1", &mut files);
-    expect(
-        &rt,
-        &answer.err.taken(),
-        &b"write fault output\n".as_slice(),
-        "the line",
-    );
-    expect(
-        &rt,
-        &(answer.status, answer.out.taken().len()),
-        &(5, 0),
-        "the status, and what was taken",
-    );
 }
 
 /// `selftest` of a number writes `g`, and puts two lines with these digits, the second with a number of steps, which is
@@ -166,26 +144,4 @@ fn tests_generated_programs(rt: HostRuntime) {
         expect(&rt, &again, &steps, row);
         expect_steps(&rt, alloc, &mut files, steps, digits);
     }
-}
-
-/// Of the writes of `selftest` the one with this number fails: the first line stands on the output, and the file is
-/// told.
-fn expect_refused(rt: &impl Abort, alloc: Global, failing: u64, line: &str) {
-    let mut files = no_files(rt, alloc, failing);
-    let answer = run_line(rt, alloc, "selftest -o g 1", &mut files, 0);
-    expect_answer(rt, &answer, "eval 849c5e22 exit 0\n", 5, line, line);
-    expect(rt, &files.content("g.map").is_some(), &(failing == 2), line);
-    expect(rt, &files.content("g").is_none(), &true, line);
-}
-
-/// A file or an output that fails is told, and nothing behind it is done.
-#[test]
-fn tells_a_refused_selftest(rt: HostRuntime) {
-    let alloc = rt.alloc();
-    expect_refused(&rt, alloc, 1, "write fault g.map\n");
-    expect_refused(&rt, alloc, 2, "write fault g\n");
-    let mut files = no_files(&rt, alloc, 0);
-    let answer = run_refused(&rt, alloc, "selftest -o g 1", &mut files);
-    expect_answer(&rt, &answer, "", 5, "write fault output\n", "the output");
-    expect(&rt, &files.content("g.map").is_none(), &true, "the map");
 }

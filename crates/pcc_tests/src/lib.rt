@@ -13,6 +13,8 @@ mod evaluations;
 #[cfg(test)]
 mod expected;
 #[cfg(test)]
+mod faults;
+#[cfg(test)]
 mod generated;
 #[cfg(test)]
 mod maps;

@@ -146,7 +146,7 @@ run a => 0 exit 44$ => G";
 #[test]
 fn maps_the_image(rt: HostRuntime) {
     let alloc = rt.alloc();
-    let mut files = files_with(&rt, alloc, PROGRAM, 0);
+    let mut files = files_with(&rt, alloc, PROGRAM);
     expect_commands(&rt, alloc, &mut files, LINES);
     let map = files.content("a.map").unwrap_or(b"");
     expect(
@@ -166,7 +166,7 @@ fn maps_the_image(rt: HostRuntime) {
 #[test]
 fn prints_the_map(rt: HostRuntime) {
     let alloc = rt.alloc();
-    let mut files = files_with(&rt, alloc, PROGRAM, 0);
+    let mut files = files_with(&rt, alloc, PROGRAM);
     let answer = run_line(&rt, alloc, "board a.c", &mut files, 1);
     expect_answer(&rt, &answer, MAP, 0, "", "board a.c");
     let is_written = files.content("a.map").is_some();

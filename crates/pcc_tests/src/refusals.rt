@@ -8,7 +8,7 @@ use std::process::Abort;
 
 /// The source is refused with this status and this line.
 fn expect_refusal(rt: &impl Abort, alloc: Global, source: &str, told: &str) {
-    let mut files = files_with(rt, alloc, source, 0);
+    let mut files = files_with(rt, alloc, source);
     for words in ["compile -o a a.c", "eval a.c"] {
         let answer = run_line(rt, alloc, words, &mut files, 0);
         expect_told(rt, alloc, &answer, told, words);
@@ -104,6 +104,6 @@ compile -o a a.c => 0";
 fn accepts_the_deepest(rt: HostRuntime) {
     let alloc = rt.alloc();
     let source = repeated(alloc, &DEEP_PARTS).expect(&rt, "a source");
-    let mut files = files_with(&rt, alloc, source.as_str(), 0);
+    let mut files = files_with(&rt, alloc, source.as_str());
     expect_commands(&rt, alloc, &mut files, DEEPEST);
 }

@@ -33,12 +33,12 @@ pub struct Answer {
 }
 
 /// A sink whose call with this number fails, and none where it is 0.
-fn sink_of(rt: &impl Abort, alloc: Global, failing_call: u64) -> MemSink {
+pub fn sink_of(rt: &impl Abort, alloc: Global, failing_call: u64) -> MemSink {
     MemSink::new(alloc, failing(rt, alloc, failing_call))
 }
 
 /// Runs a command over these files, this input and these sinks.
-fn run_with<F: FileStore>(
+pub fn run_with<F: FileStore>(
     rt: &impl Abort,
     alloc: Global,
     line: &str,
@@ -65,18 +65,6 @@ pub fn run_over<F: FileStore>(
     run_with(rt, alloc, line, files, input, sink_of(rt, alloc, 0), err)
 }
 
-/// Runs a command over these files with an empty input, where the first call of the output fails.
-pub fn run_refused<F: FileStore>(
-    rt: &impl Abort,
-    alloc: Global,
-    line: &str,
-    files: &mut F,
-) -> Answer {
-    let input = input_of(rt, alloc, "", 0);
-    let err = sink_of(rt, alloc, 0);
-    run_with(rt, alloc, line, files, input, sink_of(rt, alloc, 1), err)
-}
-
 /// Runs a command over these files with an empty input. Of standard error the call with this number
 /// fails.
 pub fn run_line<F: FileStore>(
@@ -101,9 +89,9 @@ pub fn no_files(rt: &impl Abort, alloc: Global, failing_call: u64) -> MemFiles {
     MemFiles::new(alloc, failing(rt, alloc, failing_call))
 }
 
-/// Files in memory with one source, whose call with this number fails.
-pub fn files_with(rt: &impl Abort, alloc: Global, source: &str, failing_call: u64) -> MemFiles {
-    let mut files = no_files(rt, alloc, failing_call);
+/// Files in memory with one source.
+pub fn files_with(rt: &impl Abort, alloc: Global, source: &str) -> MemFiles {
+    let mut files = no_files(rt, alloc, 0);
     put(rt, &mut files, "a.c", source.as_bytes());
     files
 }
@@ -146,7 +134,7 @@ pub fn source_and_input(program: &str) -> (&str, &str) {
 
 /// A program with this input is compiled, and its image tells this.
 pub fn expect_run(rt: &impl Abort, alloc: Global, source: &str, input: &str, told: &str) {
-    let mut files = files_with(rt, alloc, source, 0);
+    let mut files = files_with(rt, alloc, source);
     let compiled = run_line(rt, alloc, "compile -o a a.c", &mut files, 0);
     expect_answer(rt, &compiled, "", 0, "", source);
     let input = input_of(rt, alloc, input, 0);
