@@ -1,9 +1,9 @@
 -- What a line changes that is part of a function, and what one changes that is about a point.
-use Rattle.std.specs.Prelude.{ℕ, List, [], ◌∷◌, ◌++◌}
+use Rattle.std.specs.Prelude.{List, [], ◌∷◌, ◌++◌}
 use Rattle.map_text.specs.Maps.{MapFunction, MapPoint}
 use Rattle.map_text.specs.Reading.{in_last, new_point}
-use Rattle.map_text.specs.Words.{Line, TitleLine, ObjectLine, FunctionLine, ArrayLine, VariableLine, BlockLine, PointLine}
-use Rattle.map_text.specs.Words.{BoardLine, BeforeLine, AfterLine, SpilledLine, EndLine}
+use Rattle.map_text.specs.Words.{AfterLine, ArrayLine, BeforeLine, BlockLine, BoardLine, EndLine, FunctionLine, Line}
+use Rattle.map_text.specs.Words.{ObjectLine, PointLine, SpilledLine, TitleLine, VariableLine}
 
 -- the last block is changed
 abbrev pub with_blocks : (List MapPoint → List MapPoint) → MapFunction → MapFunction

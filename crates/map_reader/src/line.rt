@@ -12,7 +12,8 @@ pub enum Line {
     Title,
     /// A static object, with its number.
     Object(u32, MapObject),
-    /// The number of a function, its name, and the bytes of its frame. The lines up to the next function are this one's.
+    /// The number of a function, its name, and the bytes of its frame. The lines up to the next function are this
+    /// one's.
     Function(u32, Name, u32),
     /// A frame array, with its number.
     Array(u32, MapArray),

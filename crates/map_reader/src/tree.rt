@@ -5,11 +5,12 @@ ghost use Rattle.map_text.specs.Reading.{in_function, in_last, new_point, with_l
 ghost use Rattle.map_file.specs.Views.{block_of, function_of, map_of, point_of};
 ghost use Rattle.map_reader.specs.Parts.{function_put, part_put, with_blocks};
 ghost use Rattle.map_reader.specs.Views.{line_of};
+ghost use Rattle.map_reader.specs.declared.line.Line.TheVariants.{Array, Block, Function, Object, Variable};
 
 use crate::line::Line;
 use flow_graph::Op;
-use map_file::{MapBlock, MapFile, MapFunction, MapPoint};
-use pcc_base::NoMemory;
+use map_file::{MapArray, MapBlock, MapFile, MapFunction, MapObject, MapPoint, MapVar};
+use pcc_base::{Name, NoMemory};
 use puzzle_board::{Area, Column};
 use std::alloc::Global;
 
@@ -54,6 +55,7 @@ fn put_part(point: &mut MapPoint, line: Line)
 }
 
 /// Puts a line below a block's last point that is about it.
+#[tactic(auto, using(crate::proofs::Trees::last_put, crate::proofs::Trees::none_put))]
 fn put_in_point(block: &mut MapBlock, line: Line)
     ensures { block_of block.new ≡ in_last (part_put (line_of line)) (block_of block.old) }
 {
@@ -90,23 +92,53 @@ fn put_point(function: &mut MapFunction, point: MapPoint) -> Result<(), NoMemory
     Ok(())
 }
 
+/// Puts a frame array last.
+fn put_array(function: &mut MapFunction, array: MapArray) -> Result<(), NoMemory>
+    ensures { OnOk result (
+        function_of function.new ≡ function_put (line_of (Array 0 array)) (function_of function.old)) }
+{
+    function.arrays.push(array)?;
+    Ok(())
+}
+
+/// Puts a variable last.
+fn put_variable(function: &mut MapFunction, variable: MapVar) -> Result<(), NoMemory>
+    ensures { OnOk result (
+        function_of function.new ≡ function_put (line_of (Variable 0 variable)) (function_of function.old)) }
+{
+    function.vars.push(variable)?;
+    Ok(())
+}
+
+/// Puts a block without points last.
+fn put_block(alloc: Global, function: &mut MapFunction) -> Result<(), NoMemory>
+    ensures { OnOk result (function_of function.new ≡ function_put (line_of (Block 0)) (function_of function.old)) }
+{
+    let block = MapBlock {
+        points: Vec::new(alloc),
+    };
+    function.blocks.push(block)?;
+    Ok(())
+}
+
 /// Puts a line below a function that is part of it.
 fn put_in_function(alloc: Global, function: &mut MapFunction, line: Line) -> Result<(), NoMemory>
     ensures { OnOk result (function_of function.new ≡ function_put (line_of line) (function_of function.old)) }
 {
     match line {
-        Line::Array(_, array) => function.arrays.push(array)?,
-        Line::Variable(_, variable) => function.vars.push(variable)?,
-        Line::Block(_) => function.blocks.push(MapBlock {
-            points: Vec::new(alloc),
-        })?,
-        Line::Point(number, address, op) =>
-            put_point(function, point(alloc, number, address, op))?,
+        Line::Array(_, array) => put_array(function, array)?,
+        Line::Variable(_, variable) => put_variable(function, variable)?,
+        Line::Block(_) => put_block(alloc, function)?,
+        Line::Point(number, address, op) => {
+            let point = point(alloc, number, address, op);
+            put_point(function, point)?;
+        }
         Line::Board(areas, pieces) => put_in_block(function, Line::Board(areas, pieces)),
         Line::Before(entries) => put_in_block(function, Line::Before(entries)),
         Line::After(entries) => put_in_block(function, Line::After(entries)),
         Line::Spilled(variables) => put_in_block(function, Line::Spilled(variables)),
-        Line::Title | Line::Object(_, _) | Line::Function(_, _, _) | Line::End => {}
+        Line::Title | Line::End | Line::Object(_, _) => {}
+        Line::Function(_, name, _) => drop(name),
     }
     Ok(())
 }
@@ -123,25 +155,49 @@ fn put_in_last(alloc: Global, map: &mut MapFile, line: Line) -> Result<(), NoMem
     Ok(())
 }
 
+/// Puts an object last.
+fn put_object(map: &mut MapFile, object: MapObject) -> Result<(), NoMemory>
+    ensures { OnOk result (map_of map.new ≡ with_line (map_of map.old) (line_of (Object 0 object))) }
+{
+    map.objects.push(object)?;
+    Ok(())
+}
+
+/// Puts a function last of which there is only the first line.
+fn put_function(alloc: Global, map: &mut MapFile, name: Name, frame: u32) -> Result<(), NoMemory>
+    ensures { OnOk result (map_of map.new ≡ with_line (map_of map.old) (line_of (Function 0 name frame))) }
+{
+    let function = MapFunction {
+        name,
+        frame,
+        arrays: Vec::new(alloc),
+        vars: Vec::new(alloc),
+        blocks: Vec::new(alloc),
+    };
+    map.functions.push(function)?;
+    Ok(())
+}
+
 /// Puts a line behind those that a map was made of.
 pub(crate) fn add_line(alloc: Global, map: &mut MapFile, line: Line) -> Result<(), NoMemory>
     ensures { OnOk result (map_of map.new ≡ with_line (map_of map.old) (line_of line)) }
 {
     match line {
         Line::Title | Line::End => {}
-        Line::Object(_, object) => map.objects.push(object)?,
-        Line::Function(_, name, frame) => map.functions.push(MapFunction {
-            name,
-            frame,
-            arrays: Vec::new(alloc),
-            vars: Vec::new(alloc),
-            blocks: Vec::new(alloc),
-        })?,
+        Line::Object(_, object) => put_object(map, object)?,
+        Line::Function(_, name, frame) => put_function(alloc, map, name, frame)?,
         Line::Array(number, array) => put_in_last(alloc, map, Line::Array(number, array))?,
-        Line::Variable(number, variable) => put_in_last(alloc, map, Line::Variable(number, variable))?,
+        Line::Variable(number, variable) => put_in_last(
+            alloc,
+            map,
+            Line::Variable(number, variable),
+        )?,
         Line::Block(number) => put_in_last(alloc, map, Line::Block(number))?,
-        Line::Point(number, address, op) =>
-            put_in_last(alloc, map, Line::Point(number, address, op))?,
+        Line::Point(number, address, op) => put_in_last(
+            alloc,
+            map,
+            Line::Point(number, address, op),
+        )?,
         Line::Board(areas, pieces) => put_in_last(alloc, map, Line::Board(areas, pieces))?,
         Line::Before(entries) => put_in_last(alloc, map, Line::Before(entries))?,
         Line::After(entries) => put_in_last(alloc, map, Line::After(entries))?,

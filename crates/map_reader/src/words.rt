@@ -10,7 +10,6 @@ ghost use Rattle.map_reader.specs.Views.{texts};
 use pcc_base::NoMemory;
 
 /// What stands before the first such byte, and what stands behind it.
-#[tactic(auto, using(crate::proofs::Cuts::cut_none, crate::proofs::Cuts::cut_read, crate::proofs::Cuts::split_read))]
 pub(crate) fn cut_at(word: &[u8], byte: u8) -> Option<(&[u8], &[u8])>
     ensures parts { option_map (λ p. (p.0.now, p.1.now)) result ≡ cut_at byte word.now }
     ensures split { slice_split (λ b. b == byte) word.now
