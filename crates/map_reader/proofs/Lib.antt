@@ -1,4 +1,5 @@
 pub mod AllRead
+pub mod Compared
 pub mod Cuts
 pub mod Fronts
 pub mod Parsed

@@ -13,9 +13,11 @@ mod ops;
 mod places;
 mod reading;
 mod tree;
+mod whole;
 mod words;
 
 pub use line::Line;
 pub use lines::read_line;
 pub use reading::read_front;
+pub use whole::read_text;
 pub use words::words_of;
