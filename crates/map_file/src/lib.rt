@@ -5,7 +5,9 @@
 #![tactic(auto)]
 
 mod file;
+mod laws;
 mod printing;
 
 pub use file::{MapArray, MapBlock, MapFile, MapFunction, MapName, MapObject, MapPoint, MapVar};
+pub use laws::maps_are_numbered;
 pub use printing::print_map;

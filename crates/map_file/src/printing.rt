@@ -2,7 +2,6 @@
 
 ghost use Rattle.std.specs.Prelude.{◌≡◌, ◌≤◌, ◌++◌, ◌^◌, IfOk, OnOk, flat_map, length, map};
 ghost use Rattle.map_text.specs.Entries as entries;
-ghost use Rattle.map_text.specs.Rules.{IsMap};
 ghost use Rattle.map_text.specs.Views.{named_of};
 ghost use Rattle.map_text.specs.Words.{
   array_lines,
@@ -15,6 +14,7 @@ ghost use Rattle.map_text.specs.Words.{
   point_lines,
   variable_lines,
 };
+ghost use Rattle.map_file.specs.Numbered.{IsNumbered};
 ghost use Rattle.map_file.specs.Views.{
   array_of,
   block_of,
@@ -190,9 +190,9 @@ fn print_function(out: &mut Vec<u8>, number: u32, function: &MapFunction) -> Res
     Ok(())
 }
 
-/// The text of a map. The only refusal is want of memory.
+/// The text of a map, whose parts are few enough to have numbers. The only refusal is want of memory.
 pub fn print_map(alloc: Global, map: &MapFile) -> Result<Vec<u8>, NoMemory>
-    requires { IsMap (map_of map.now) }
+    requires { IsNumbered (map_of map.now) }
     ensures { IfOk result (λ text. text.items ≡ map_text (map_of map.now)) }
 {
     let mut out = Vec::new(alloc);

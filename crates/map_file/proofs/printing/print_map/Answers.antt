@@ -1,7 +1,7 @@
 use Rattle.std.proofs.Common.{arith}
 use Rattle.std.proofs.lemmas.List.{length-map}
-use Rattle.map_text.specs.Rules.{IsMapFunction}
-use Rattle.map_file.specs.Views.{array_of, block_of, function_of, map_of, variable_of}
+use Rattle.map_file.specs.Numbered.{HasNumberedParts}
+use Rattle.map_file.specs.Views.{array_of, block_of, function_of, variable_of}
 use Rattle.map_file.proofs.Texts.{made_at}
 use Rattle.map_file.proofs.printing.print_map.Goals as goal
 
@@ -11,9 +11,9 @@ print_function-requires-clause-arrays c =
     let h = rw same at c.loop-number-test.true in
     let is = rw same at c.function-item.is in
     let f = c.function-item.result in
-    let ok = made_at function_of (IsMapFunction (map_of c.args.map.now)) c.args.map.now.functions.items
-    c.loop-number.number f c.requires.functions h is in
-    omega (arith, ok.few_arrays, length-map f.arrays.items array_of)
+    let ok = made_at function_of HasNumberedParts c.args.map.now.functions.items c.loop-number.number f
+    c.requires.parts h is in
+    omega (arith, ok.arrays, length-map f.arrays.items array_of)
 
 pub print_function-requires-clause-variables : goal.print_function-requires-clause-variables
 print_function-requires-clause-variables c =
@@ -21,9 +21,9 @@ print_function-requires-clause-variables c =
     let h = rw same at c.loop-number-test.true in
     let is = rw same at c.function-item.is in
     let f = c.function-item.result in
-    let ok = made_at function_of (IsMapFunction (map_of c.args.map.now)) c.args.map.now.functions.items
-    c.loop-number.number f c.requires.functions h is in
-    omega (arith, ok.few_variables, length-map f.vars.items variable_of)
+    let ok = made_at function_of HasNumberedParts c.args.map.now.functions.items c.loop-number.number f
+    c.requires.parts h is in
+    omega (arith, ok.variables, length-map f.vars.items variable_of)
 
 pub print_function-requires-clause-blocks : goal.print_function-requires-clause-blocks
 print_function-requires-clause-blocks c =
@@ -31,6 +31,6 @@ print_function-requires-clause-blocks c =
     let h = rw same at c.loop-number-test.true in
     let is = rw same at c.function-item.is in
     let f = c.function-item.result in
-    let ok = made_at function_of (IsMapFunction (map_of c.args.map.now)) c.args.map.now.functions.items
-    c.loop-number.number f c.requires.functions h is in
-    omega (arith, ok.few_blocks, length-map f.blocks.items block_of)
+    let ok = made_at function_of HasNumberedParts c.args.map.now.functions.items c.loop-number.number f
+    c.requires.parts h is in
+    omega (arith, ok.blocks, length-map f.blocks.items block_of)

@@ -1,0 +1,6 @@
+pub mod AllRead
+pub mod Compared
+pub mod Cuts
+pub mod Fronts
+pub mod Parsed
+pub mod Trees

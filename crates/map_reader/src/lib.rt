@@ -1,0 +1,23 @@
+//! Texts of maps, read line by line.
+//!
+//! In go the words of a line, out comes the line (`read_line`), as `line_in` of `map_text` reads it. `specs/Views.antt`
+//! says which line of the definition a line in memory is.
+#![tactic(auto)]
+
+mod fields;
+mod line;
+mod lines;
+mod lists;
+mod numbers;
+mod ops;
+mod places;
+mod reading;
+mod tree;
+mod whole;
+mod words;
+
+pub use line::Line;
+pub use lines::read_line;
+pub use reading::read_front;
+pub use whole::read_text;
+pub use words::words_of;
