@@ -8,3 +8,4 @@ pub mod StatementComplete
 pub mod Sound
 pub mod SoundDeclarations
 pub mod SoundStatements
+pub mod Exact

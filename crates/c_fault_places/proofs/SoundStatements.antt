@@ -682,10 +682,10 @@ sound_external n b sb ts = under (take_specifiers ts).0 (take_specifiers ts).1 (
         (read_declarator b.exprs us) _ (sound_declarator n b.exprs sb.exprs us) (λ d vs g.
         by_part (s ∷ ss) us tt h d vs g (has_parameters d.part) refl (take_mark marks.LeftBrace vs) refl)
 
-record SoundUnit (h : ℕ) (ts : List Token) (es : List ExternalTree) (us : List Token) : Type 0 where
-  tokens : ts ≡ unit_tokens es ++ us
-  all : AllByRecursion IsExternal es
-  low : greatest external_height es ≤ h
+pub record SoundUnit (h : ℕ) (ts : List Token) (es : List ExternalTree) (us : List Token) : Type 0 where
+  pub tokens : ts ≡ unit_tokens es ++ us
+  pub all : AllByRecursion IsExternal es
+  pub low : greatest external_height es ≤ h
 
 unit_push : (es : List ExternalTree) (e : ExternalTree) → unit_tokens (es ++ e ∷ [])
     ≡ unit_tokens es ++ external_tokens e
@@ -711,7 +711,7 @@ sound_unit_step n b sb ts a (t ∷ us) s =
       low = omega (arith, unit_low a e, s.low, g.1.1);
     })
 
-sound_unit : (n : ℕ) (ts : List Token) → Holds (SoundUnit (suc n) ts) (read_unit (below_of n) ts)
+pub sound_unit : (n : ℕ) (ts : List Token) → Holds (SoundUnit (suc n) ts) (read_unit (below_of n) ts)
 sound_unit n ts = holds_chain (SoundUnit (suc n) ts) (unit_step (below_of n))
     (λ a us s. sound_unit_step n (below_of n) (sound_below n) ts a us s) (length ts) [] ts
     (record { tokens = refl; all = tt; low = omega arith })
