@@ -8,4 +8,6 @@ pub mod StatementComplete
 pub mod Sound
 pub mod SoundDeclarations
 pub mod SoundStatements
+pub mod Right
+pub mod RightExpressions
 pub mod Exact

@@ -84,7 +84,7 @@ list_push tokens P ts (y ∷ ys) commas us vs ws at x s f g p =
 abbrev pub One : {A : Type 0} → (A → List Token) → (A → Type 0) → List Token → A → List Token → Type 0
 One tokens P ts x us = (ts ≡ tokens x ++ us) × P x
 
-sound_more : {A : Type 0} (tokens : A → List Token) (P : A → Type 0) (read : List Token → Reads A)
+pub sound_more : {A : Type 0} (tokens : A → List Token) (P : A → Type 0) (read : List Token → Reads A)
     → ((ts : List Token) → Holds (One tokens P ts) (read ts)) → (ts : List Token) (x : A) (us : List Token)
     → One tokens P ts x us → Holds (SoundList tokens P ts) (read_more read x us)
 sound_more {A} tokens P read sound ts x us one =
@@ -140,10 +140,10 @@ conditional_is : (e : Option Expr) → MaybeIs 14 e → IsMaybeConditional e
 conditional_is None is = tt
 conditional_is (Some e) is = is
 
-abbrev IsLowArray : ℕ → ArrayTree → Type 0
+abbrev pub IsLowArray : ℕ → ArrayTree → Type 0
 IsLowArray h a = IsMaybeConditional a.size × (maybe_expr_height a.size ≤ h)
 
-sound_array : (n : ℕ) (b : Readers) → SoundReaders n b → (o : Span) (ts : List Token)
+pub sound_array : (n : ℕ) (b : Readers) → SoundReaders n b → (o : Span) (ts : List Token)
     → Holds (One array_tokens (IsLowArray n) (mark marks.LeftBracket o ∷ ts)) (array_behind b o ts)
 sound_array n b sb o ts =
     holds_then (SoundMaybe 14 n ts) (One array_tokens (IsLowArray n) (mark marks.LeftBracket o ∷ ts))
@@ -158,10 +158,10 @@ sound_array n b sb o ts =
       (conditional_is size s.fits, s.low),
     )))
 
-abbrev IsLowMaybeArray : ℕ → Option ArrayTree → Type 0
+abbrev pub IsLowMaybeArray : ℕ → Option ArrayTree → Type 0
 IsLowMaybeArray h a = IsMaybeArray a × (maybe_array_height a ≤ h)
 
-sound_maybe_array : (n : ℕ) (b : Readers) → SoundReaders n b → (ts : List Token)
+pub sound_maybe_array : (n : ℕ) (b : Readers) → SoundReaders n b → (ts : List Token)
     → Holds (One maybe_array_tokens (IsLowMaybeArray n) ts) (read_maybe_array b ts)
 sound_maybe_array n b sb ts = under (take_mark marks.LeftBracket ts) (mark_taken marks.LeftBracket ts)
   where
@@ -173,10 +173,10 @@ sound_maybe_array n b sb ts = under (take_mark marks.LeftBracket ts) (mark_taken
         (One maybe_array_tokens (IsLowMaybeArray n) ts) (array_behind b o us) _ (sound_array n b sb o us)
         (λ a vs g. (h ∙ g.0, g.1))
 
-abbrev IsLowParameter : ℕ → ParameterTree → Type 0
+abbrev pub IsLowParameter : ℕ → ParameterTree → Type 0
 IsLowParameter h p = IsParameter p × (parameter_height p ≤ h)
 
-sound_parameter : (n : ℕ) (b : Readers) → SoundReaders n b → (ts : List Token)
+pub sound_parameter : (n : ℕ) (b : Readers) → SoundReaders n b → (ts : List Token)
     → Holds (One parameter_tokens (IsLowParameter n) ts) (read_parameter b ts)
 sound_parameter n b sb ts = under (take_specifiers ts).0 (take_specifiers ts).1 (specifiers_taken ts)
   where
@@ -204,15 +204,15 @@ all_low : {A : Type 0} (P : A → Type 0) (height : A → ℕ) (h : ℕ) (xs : L
 all_low P height h [] all = (tt, omega arith)
 all_low P height h (x ∷ xs) all = (let r = all_low P height h xs all.1 in ((all.0.0, r.0), omega (arith, all.0.1, r.1)))
 
-abbrev IsLowPart : ℕ → PartTree → Type 0
+abbrev pub IsLowPart : ℕ → PartTree → Type 0
 IsLowPart h part = IsPart part × (part_height part ≤ h)
 
 -- the parameters of a function
-record SoundParameters (h : ℕ) (ts : List Token) (l : Listed ParameterTree) (us : List Token) : Type 0 where
-  tokens_are : ts ≡ separated parameter_tokens l.0 l.1 ++ us
-  all : AllByRecursion IsParameter l.0
-  low : greatest parameter_height l.0 ≤ h
-  apart : AreApart l.0 l.1
+pub record SoundParameters (h : ℕ) (ts : List Token) (l : Listed ParameterTree) (us : List Token) : Type 0 where
+  pub tokens_are : ts ≡ separated parameter_tokens l.0 l.1 ++ us
+  pub all : AllByRecursion IsParameter l.0
+  pub low : greatest parameter_height l.0 ≤ h
+  pub apart : AreApart l.0 l.1
 
 some_parameters : (h : ℕ) (ts : List Token) (r : Reads (Listed ParameterTree))
     → Holds (SoundList parameter_tokens (IsLowParameter h) ts) r → Holds (SoundParameters h ts) r
@@ -220,7 +220,7 @@ some_parameters h ts (Faults deep us) s = tt
 some_parameters h ts (Found l us) s = (let r = all_low IsParameter parameter_height h l.0 s.all in
     record { tokens_are = s.tokens_are; all = r.0; low = r.1; apart = s.apart })
 
-sound_parameters : (n : ℕ) (b : Readers) → SoundReaders n b → (ts : List Token)
+pub sound_parameters : (n : ℕ) (b : Readers) → SoundReaders n b → (ts : List Token)
     → Holds (SoundParameters n ts) (read_parameters b ts)
 sound_parameters n b sb ts = under (take_mark marks.RightParen ts)
   where
@@ -232,7 +232,7 @@ sound_parameters n b sb ts = under (take_mark marks.RightParen ts)
         some_parameters n ts (read_more (read_parameter b) p us)
         (sound_more parameter_tokens (IsLowParameter n) (read_parameter b) (sound_parameter n b sb) ts p us g))
 
-sound_part : (n : ℕ) (b : Readers) → SoundReaders n b → (ts : List Token)
+pub sound_part : (n : ℕ) (b : Readers) → SoundReaders n b → (ts : List Token)
     → Holds (One part_tokens (IsLowPart n) ts) (read_part b ts)
 sound_part n b sb ts = brackets (take_mark marks.LeftBracket ts) (mark_taken marks.LeftBracket ts)
   where
@@ -284,12 +284,12 @@ sound_declarator n b sb ts = under (take_pointer ts).0 (take_pointer ts).1 (take
 -- ---- initialisers
 
 -- values in braces, with the comma behind the last of them
-record SoundBraced (h : ℕ) (ts : List Token) (braced : Braced) (us : List Token) : Type 0 where
-  tokens : ts ≡ (exprs_tokens (exprs_of braced.0.0) braced.0.1 ++ maybe_comma_tokens braced.1) ++ us
-  are : AreValues (exprs_of braced.0.0)
-  apart : Separate (exprs_of braced.0.0) braced.0.1
-  low : exprs_height (exprs_of braced.0.0) ≤ h
-  some : 1 ≤ length braced.0.0
+pub record SoundBraced (h : ℕ) (ts : List Token) (braced : Braced) (us : List Token) : Type 0 where
+  pub tokens : ts ≡ (exprs_tokens (exprs_of braced.0.0) braced.0.1 ++ maybe_comma_tokens braced.1) ++ us
+  pub are : AreValues (exprs_of braced.0.0)
+  pub apart : Separate (exprs_of braced.0.0) braced.0.1
+  pub low : exprs_height (exprs_of braced.0.0) ≤ h
+  pub some : 1 ≤ length braced.0.0
 
 without_comma : (h : ℕ) (ts : List Token) (values : Values) (us : List Token) → SoundValues h ts values us
     → SoundBraced h ts (values, None) us
@@ -325,7 +325,7 @@ with_comma h ts values us vs at s e =
       some = s.some;
     })
 
-sound_brace : (n : ℕ) (b : Readers) → SoundReaders n b → (ts : List Token) (values : Values) (trailing : Option Span)
+pub sound_brace : (n : ℕ) (b : Readers) → SoundReaders n b → (ts : List Token) (values : Values) (trailing : Option Span)
     (us : List Token) → SoundBraced n ts (values, trailing) us
     → HoldsStep (SoundBraced n ts) (brace_behind b values trailing us)
 sound_brace n b sb ts values (Some trailing) us s = tt
@@ -346,13 +346,13 @@ sound_brace n b sb ts values None us braced = under (take_mark marks.Comma us) (
     under None h = tt
     under (Some (at, vs)) h = closes at vs h (take_mark marks.RightBrace vs)
 
-sound_values : (n : ℕ) (b : Readers) → SoundReaders n b → (ts : List Token)
+pub sound_values : (n : ℕ) (b : Readers) → SoundReaders n b → (ts : List Token)
     → Holds (SoundBraced n ts) (read_values b ts)
 sound_values n b sb ts = holds_then (Sound 15 n ts) (SoundBraced n ts) (b.assignment ts) _ (sb.assignment ts) (λ e us s.
     holds_chain (SoundBraced n ts) (brace_step b) (λ a ws g. sound_brace n b sb ts a.0 a.1 ws g) (length us)
     ((e ∷ [], []), None) us (without_comma n ts (e ∷ [], []) us (first_value n ts e us s)))
 
-abbrev IsLowInitialiser : ℕ → InitialiserTree → Type 0
+abbrev pub IsLowInitialiser : ℕ → InitialiserTree → Type 0
 IsLowInitialiser h i = IsInitialiser i × (initialiser_height i ≤ h)
 
 braces_are : (n : ℕ) (o : Span) (es : List Expr) (commas : List Span) (trailing : Option Span) (c : Span)
@@ -361,7 +361,7 @@ braces_are : (n : ℕ) (o : Span) (es : List Expr) (commas : List Span) (trailin
 braces_are n o [] commas trailing c some are apart low = absurd (omega arith)
 braces_are n o (e ∷ es) commas trailing c some are apart low = ((are, apart), low)
 
-sound_initialiser : (n : ℕ) (b : Readers) → SoundReaders n b → (ts : List Token)
+pub sound_initialiser : (n : ℕ) (b : Readers) → SoundReaders n b → (ts : List Token)
     → Holds (One initialiser_tokens (IsLowInitialiser n) ts) (read_initialiser b ts)
 sound_initialiser n b sb ts = under (take_mark marks.LeftBrace ts) (mark_taken marks.LeftBrace ts)
   where
@@ -386,10 +386,10 @@ sound_initialiser n b sb ts = under (take_mark marks.LeftBrace ts) (mark_taken m
 
 -- ---- items and declarations
 
-abbrev IsLowValue : ℕ → Option ValueTree → Type 0
+abbrev pub IsLowValue : ℕ → Option ValueTree → Type 0
 IsLowValue h v = IsMaybeValue v × (value_height v ≤ h)
 
-sound_value_part : (n : ℕ) (b : Readers) → SoundReaders n b → (ts : List Token)
+pub sound_value_part : (n : ℕ) (b : Readers) → SoundReaders n b → (ts : List Token)
     → Holds (One value_tokens (IsLowValue n) ts) (value_from b (take_mark marks.Equal ts) ts)
 sound_value_part n b sb ts = under (take_mark marks.Equal ts) (mark_taken marks.Equal ts)
   where
@@ -400,10 +400,10 @@ sound_value_part n b sb ts = under (take_mark marks.Equal ts) (mark_taken marks.
         holds_above (One initialiser_tokens (IsLowInitialiser n) us) (One value_tokens (IsLowValue n) ts) 0 b.height _ us
         (read_initialiser b us) _ (sound_initialiser n b sb us) (λ v vs some g. (h ∙ ap (λ zs. mark marks.Equal at ∷ zs) g.0, g.1))
 
-abbrev IsLowItem : ℕ → ItemTree → Type 0
+abbrev pub IsLowItem : ℕ → ItemTree → Type 0
 IsLowItem h i = IsItem i × (item_height i ≤ h)
 
-sound_item_behind : (n : ℕ) (b : Readers) → SoundReaders n b → (ts : List Token) (d : DeclaratorTree) (us : List Token)
+pub sound_item_behind : (n : ℕ) (b : Readers) → SoundReaders n b → (ts : List Token) (d : DeclaratorTree) (us : List Token)
     → One declarator_tokens (IsLowDeclarator n) ts d us → Holds (One item_tokens (IsLowItem n) ts) (item_behind b d us)
 sound_item_behind n b sb ts d us s =
     holds_then (One value_tokens (IsLowValue n) us) (One item_tokens (IsLowItem n) ts)
@@ -412,7 +412,7 @@ sound_item_behind n b sb ts d us s =
       ((s.1.0, g.1.0), omega (arith, s.1.1, g.1.1)),
     ))
 
-sound_item : (n : ℕ) (b : Readers) → SoundReaders n b → (ts : List Token)
+pub sound_item : (n : ℕ) (b : Readers) → SoundReaders n b → (ts : List Token)
     → Holds (One item_tokens (IsLowItem n) ts) (read_item b ts)
 sound_item n b sb ts = holds_then (One declarator_tokens (IsLowDeclarator n) ts) (One item_tokens (IsLowItem n) ts)
     (read_declarator b ts) _ (sound_declarator n b sb ts) (λ d us s. sound_item_behind n b sb ts d us s)

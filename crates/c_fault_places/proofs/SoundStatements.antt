@@ -68,12 +68,12 @@ never {A} e = absurd (let wrong : false ≡ true = e in cc)
 
 -- ---- parts
 
-record SoundCondition (h : ℕ) (ts : List Token) (k : Condition) (us : List Token) : Type 0 where
-  tokens : ts ≡ in_parens k.0 k.1 k.2 us
-  is : IsExpr k.1
-  low : expr_height k.1 ≤ h
+pub record SoundCondition (h : ℕ) (ts : List Token) (k : Condition) (us : List Token) : Type 0 where
+  pub tokens : ts ≡ in_parens k.0 k.1 k.2 us
+  pub is : IsExpr k.1
+  pub low : expr_height k.1 ≤ h
 
-sound_condition : (n : ℕ) (b : Below) → SoundBelow n b → (ts : List Token)
+pub sound_condition : (n : ℕ) (b : Below) → SoundBelow n b → (ts : List Token)
     → Holds (SoundCondition n ts) (read_condition b ts)
 sound_condition n b sb ts =
     holds_then (λ o us. ts ≡ mark marks.LeftParen o ∷ us) (SoundCondition n ts) (read_mark marks.LeftParen ts) _
@@ -100,14 +100,14 @@ maybe_is (Some e) is = is.0
 
 -- ---- rows of statements
 
-abbrev AllStmts : (Stmt → Type 0) → List Stmt → Type 0
+abbrev pub AllStmts : (Stmt → Type 0) → List Stmt → Type 0
 AllStmts K [] = Unit {0}
 AllStmts K (s ∷ ss) = IsStmt s × K s × AllStmts K ss
 
-record SoundRow (K : Stmt → Type 0) (h : ℕ) (ts : List Token) (ss : List Stmt) (us : List Token) : Type 0 where
-  tokens : ts ≡ stmts_tokens (stmts_of ss) ++ us
-  all : AllStmts K ss
-  low : stmts_height (stmts_of ss) ≤ h
+pub record SoundRow (K : Stmt → Type 0) (h : ℕ) (ts : List Token) (ss : List Stmt) (us : List Token) : Type 0 where
+  pub tokens : ts ≡ stmts_tokens (stmts_of ss) ++ us
+  pub all : AllStmts K ss
+  pub low : stmts_height (stmts_of ss) ≤ h
 
 row_tokens : (ss : List Stmt) (s : Stmt) → stmts_tokens (stmts_of (ss ++ s ∷ []))
     ≡ stmts_tokens (stmts_of ss) ++ stmt_tokens s
@@ -124,7 +124,7 @@ row_all : (K : Stmt → Type 0) (ss : List Stmt) (s : Stmt) → AllStmts K ss �
 row_all K [] s all is k = (is, k, tt)
 row_all K (x ∷ xs) s all is k = (all.0, all.1, row_all K xs s all.2 is k)
 
-sound_row : (K : Stmt → Type 0) (h : ℕ) (read : StmtReader) → SoundStatements K h read → (ts : List Token)
+pub sound_row : (K : Stmt → Type 0) (h : ℕ) (read : StmtReader) → SoundStatements K h read → (ts : List Token)
     → Holds (SoundRow K h ts) (read_until read ts)
 sound_row K h read reads ts =
     holds_chain (SoundRow K h ts) (until_step read) (λ a us s. turn a us s (take_mark marks.RightBrace us)) (length ts)
@@ -153,10 +153,10 @@ cases_are (s ∷ ss) all = (all.0, all.1, cases_are ss all.2)
 
 -- ---- statements
 
-abbrev PlainStmt : ℕ → List Token → Stmt → List Token → Type 0
+abbrev pub PlainStmt : ℕ → List Token → Stmt → List Token → Type 0
 PlainStmt n ts s us = SoundStmt IsPlain (suc n) ts s us
 
-sound_block : (n : ℕ) (b : Below) → SoundBelow n b → (o : Span) (ts : List Token)
+pub sound_block : (n : ℕ) (b : Below) → SoundBelow n b → (o : Span) (ts : List Token)
     → Holds (PlainStmt n (mark marks.LeftBrace o ∷ ts)) (block_behind b o ts)
 sound_block n b sb o ts =
     holds_then (SoundRow IsBlockItem n ts) (PlainStmt n (mark marks.LeftBrace o ∷ ts)) (read_until b.item ts) _
@@ -178,7 +178,7 @@ not_open : (x : Bool) (r : Takes Span) (p : Span × List Token) → r ≡ Some p
 not_open false r p e h = refl
 not_open true r p e h = absurd (let wrong : Some p ≡ None = sym e ∙ h refl in cc)
 
-sound_if : (n : ℕ) (b : Below) → SoundBelow n b → (at : Span) (ts : List Token)
+pub sound_if : (n : ℕ) (b : Below) → SoundBelow n b → (at : Span) (ts : List Token)
     → Holds (PlainStmt n (word words.If at ∷ ts)) (if_behind b at ts)
 sound_if n b sb at ts =
     holds_above (SoundCondition n ts) (PlainStmt n (word words.If at ∷ ts)) 0 b.exprs.height _ ts
@@ -222,7 +222,7 @@ sound_if n b sb at ts =
           no_else = m.no_else;
         }))
 
-sound_while : (n : ℕ) (b : Below) → SoundBelow n b → (at : Span) (ts : List Token)
+pub sound_while : (n : ℕ) (b : Below) → SoundBelow n b → (at : Span) (ts : List Token)
     → Holds (PlainStmt n (word words.While at ∷ ts)) (while_behind b at ts)
 sound_while n b sb at ts =
     holds_above (SoundCondition n ts) (PlainStmt n (word words.While at ∷ ts)) 0 b.exprs.height _ ts
@@ -238,7 +238,7 @@ sound_while n b sb at ts =
       no_else = g.no_else;
     }))
 
-sound_do : (n : ℕ) (b : Below) → SoundBelow n b → (at : Span) (ts : List Token)
+pub sound_do : (n : ℕ) (b : Below) → SoundBelow n b → (at : Span) (ts : List Token)
     → Holds (PlainStmt n (word words.Do at ∷ ts)) (do_behind b at ts)
 sound_do n b sb at ts =
     holds_above (SoundStmt IsPlain n ts) (PlainStmt n (word words.Do at ∷ ts)) 0 b.exprs.height _ ts (b.statement ts) _
@@ -263,20 +263,20 @@ sound_do n b sb at ts =
     })))))
 
 -- the rest of a `for`
-abbrev rest_tokens : ForRest → List Token
+abbrev pub rest_tokens : ForRest → List Token
 rest_tokens r = maybe_expr_tokens r.0 ++ mark marks.Semicolon r.1
     ∷ (maybe_expr_tokens r.2 ++ mark marks.RightParen r.3 ∷ stmt_tokens r.4)
 
-record SoundRest (h : ℕ) (ts : List Token) (r : ForRest) (us : List Token) : Type 0 where
-  tokens : ts ≡ rest_tokens r ++ us
-  is_condition : IsMaybeExpr r.0
-  is_step : IsMaybeExpr r.2
-  is : IsStmt r.4
-  plain : IsPlain r.4
-  low : max (maybe_expr_height r.0) (max (maybe_expr_height r.2) (stmt_height r.4)) ≤ h
-  no_else : ends_open r.4 ≡ true → take_word words.Else us ≡ None
+pub record SoundRest (h : ℕ) (ts : List Token) (r : ForRest) (us : List Token) : Type 0 where
+  pub tokens : ts ≡ rest_tokens r ++ us
+  pub is_condition : IsMaybeExpr r.0
+  pub is_step : IsMaybeExpr r.2
+  pub is : IsStmt r.4
+  pub plain : IsPlain r.4
+  pub low : max (maybe_expr_height r.0) (max (maybe_expr_height r.2) (stmt_height r.4)) ≤ h
+  pub no_else : ends_open r.4 ≡ true → take_word words.Else us ≡ None
 
-sound_rest : (n : ℕ) (b : Below) → SoundBelow n b → (ts : List Token) → Holds (SoundRest n ts) (read_for_rest b ts)
+pub sound_rest : (n : ℕ) (b : Below) → SoundBelow n b → (ts : List Token) → Holds (SoundRest n ts) (read_for_rest b ts)
 sound_rest n b sb ts =
     holds_then (SoundMaybe 16 n ts) (SoundRest n ts) (maybe_before b.exprs.expression marks.Semicolon ts) _
     (sound_maybe 16 n b.exprs.expression sb.exprs.expression marks.Semicolon ts) (λ k us f.
@@ -303,7 +303,7 @@ sound_rest n b sb ts =
       no_else = j.no_else;
     }))))))
 
-sound_for : (n : ℕ) (b : Below) → SoundBelow n b → (at : Span) (ts : List Token)
+pub sound_for : (n : ℕ) (b : Below) → SoundBelow n b → (at : Span) (ts : List Token)
     → Holds (PlainStmt n (word words.For at ∷ ts)) (for_behind b at ts)
 sound_for n b sb at ts =
     holds_above (λ o us. ts ≡ mark marks.LeftParen o ∷ us) (PlainStmt n (word words.For at ∷ ts)) 0 b.exprs.height _ ts
@@ -347,7 +347,7 @@ sound_for n b sb at ts =
           no_else = i.no_else;
         }))
 
-sound_switch : (n : ℕ) (b : Below) → SoundBelow n b → (at : Span) (ts : List Token)
+pub sound_switch : (n : ℕ) (b : Below) → SoundBelow n b → (at : Span) (ts : List Token)
     → Holds (PlainStmt n (word words.Switch at ∷ ts)) (switch_behind b at ts)
 sound_switch n b sb at ts =
     holds_above (SoundCondition n ts) (PlainStmt n (word words.Switch at ∷ ts)) 0 b.exprs.height _ ts
@@ -373,7 +373,7 @@ sound_switch n b sb at ts =
       no_else = λ e. never e;
     })))))
 
-sound_value : (n : ℕ) (b : Below) → SoundBelow n b → (ts us : List Token) (make : Option Expr → Span → Stmt)
+pub sound_value : (n : ℕ) (b : Below) → SoundBelow n b → (ts us : List Token) (make : Option Expr → Span → Stmt)
     → ((e : Option Expr) (c : Span) (vs : List Token) → us ≡ maybe_expr_tokens e ++ mark marks.Semicolon c ∷ vs
     → IsMaybeExpr e → maybe_expr_height e ≤ n → PlainStmt n ts (make e c) vs) →
     Holds (PlainStmt n ts) (then_read (maybe_before b.exprs.expression marks.Semicolon us)
@@ -486,7 +486,7 @@ as_item h ts (Found x us) s = record {
   no_else = s.no_else;
 }
 
-sound_item : (n : ℕ) (b : Below) → SoundBelow n b
+pub sound_item : (n : ℕ) (b : Below) → SoundBelow n b
     → SoundStatements IsBlockItem (suc n) (read_block_item (read_declaration b.exprs) (read_statement b))
 sound_item n b sb ts = under (take_specifiers ts).0
   where
@@ -498,10 +498,10 @@ sound_item n b sb ts = under (take_specifiers ts).0
         (λ d us g.
         record { tokens = g.0; is = g.1.0; kind = tt; low = g.1.1; no_else = λ x. never x })
 
-record SoundLabels (h : ℕ) (ts : List Token) (ls : List LabelTree) (us : List Token) : Type 0 where
-  tokens : ts ≡ labels_tokens ls ++ us
-  all : AllByRecursion IsLabel ls
-  low : greatest label_height ls ≤ h
+pub record SoundLabels (h : ℕ) (ts : List Token) (ls : List LabelTree) (us : List Token) : Type 0 where
+  pub tokens : ts ≡ labels_tokens ls ++ us
+  pub all : AllByRecursion IsLabel ls
+  pub low : greatest label_height ls ≤ h
 
 labels_push : (ls : List LabelTree) (l : LabelTree) → labels_tokens (ls ++ l ∷ []) ≡ labels_tokens ls ++ label_tokens l
 labels_push [] l = append-nil (label_tokens l)
@@ -524,7 +524,7 @@ one_label h ts ls us l vs s f is low =
       low = omega (arith, labels_low ls l, s.low, low);
     }
 
-sound_labels : (h : ℕ) (read : Reader) → SoundReader 14 h read → (ts : List Token)
+pub sound_labels : (h : ℕ) (read : Reader) → SoundReader 14 h read → (ts : List Token)
     → Holds (SoundLabels h ts) (read_labels read ts)
 sound_labels h read reads ts =
     holds_chain (SoundLabels h ts) (label_step read)
@@ -551,7 +551,7 @@ sound_labels h read reads ts =
         ∙ (ap (λ zs. expr_tokens e ++ zs) i ∙ sym (append_assoc (expr_tokens e) (mark marks.Colon c ∷ []) xs))))
         (g.is, g.loose) g.low))
 
-sound_labelled : (n : ℕ) (b : Below) → SoundBelow n b → (r : Readers) → SoundReaders (suc n) r
+pub sound_labelled : (n : ℕ) (b : Below) → SoundBelow n b → (r : Readers) → SoundReaders (suc n) r
     → SoundStatements IsCase (suc n) (read_labelled r.conditional (read_statement b))
 sound_labelled n b sb r sr ts =
     holds_then (SoundLabels (suc n) ts) (SoundStmt IsCase (suc n) ts) (read_labels r.conditional ts) _
@@ -602,7 +602,7 @@ sound_below (suc n) =
 
 -- ---- units
 
-abbrev IsLowExternal : ℕ → ExternalTree → Type 0
+abbrev pub IsLowExternal : ℕ → ExternalTree → Type 0
 IsLowExternal h e = IsExternal e × (external_height e ≤ h)
 
 has_part : (part : PartTree) → has_parameters part ≡ true → HasParameters part
@@ -635,7 +635,7 @@ block_alone (Break at semicolon) us x is plain e = absurd (let wrong : None ≡ 
 block_alone (Continue at semicolon) us x is plain e = absurd (let wrong : None ≡ Some x = e in cc)
 block_alone (Return at v semicolon) us x is plain e = absurd (let wrong : None ≡ Some x = e in cc)
 
-sound_external : (n : ℕ) (b : Below) → SoundBelow n b → (ts : List Token)
+pub sound_external : (n : ℕ) (b : Below) → SoundBelow n b → (ts : List Token)
     → Holds (One external_tokens (IsLowExternal (suc n)) ts) (read_external b ts)
 sound_external n b sb ts = under (take_specifiers ts).0 (take_specifiers ts).1 (specifiers_taken ts)
   where
@@ -698,7 +698,7 @@ unit_low : (es : List ExternalTree) (e : ExternalTree) → greatest external_hei
 unit_low [] e = omega arith
 unit_low (x ∷ xs) e = omega (arith, unit_low xs e)
 
-sound_unit_step : (n : ℕ) (b : Below) → SoundBelow n b → (ts : List Token) (a : List ExternalTree) (us : List Token)
+pub sound_unit_step : (n : ℕ) (b : Below) → SoundBelow n b → (ts : List Token) (a : List ExternalTree) (us : List Token)
     → SoundUnit (suc n) ts a us → HoldsStep (SoundUnit (suc n) ts) (unit_step b a us)
 sound_unit_step n b sb ts a [] s = tt
 sound_unit_step n b sb ts a (t ∷ us) s =
