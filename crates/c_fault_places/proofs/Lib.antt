@@ -10,4 +10,5 @@ pub mod SoundDeclarations
 pub mod SoundStatements
 pub mod Right
 pub mod RightExpressions
+pub mod RightDeclarations
 pub mod Exact

@@ -178,3 +178,22 @@ falls_chain I D step keeps falls stays zero a ts i = falls_on I D (step a ts) (�
     (keeps a ts i) (falls a ts i) (λ b us k. stays b us k)
 falls_chain I D step keeps falls stays (suc n) a ts i = falls_on I D (step a ts) (chain step n) a ts
     (keeps a ts i) (falls a ts i) (λ b us k. falls_chain I D step keeps falls stays n b us k)
+
+-- the same, where what is read rests on the room that there is
+pub falls_room : {A B : Type 0} (P : A → List Token → Type 0) (F D : List Token → Type 0) (part height : ℕ)
+    (t : Token) (ts : List Token) (r : Reads A) (f : A → List Token → Reads B) → D (t ∷ ts) → Holds P r
+    → (part < height → Falls F r) → ((us : List Token) → part < height → F us → D us)
+    → ((a : A) (us : List Token) → part < height → P a us → Falls D (f a us))
+    → Falls D (then_read (above part height t ts r) f)
+falls_room P F D part height t ts r f now h k d g = by (ltb part height) refl
+  where
+    by : (b : Bool) → ltb part height ≡ b → Falls D (then_read (if b then r else Faults true (t ∷ ts)) f)
+    by true e = (let l : part < height = ltb-true part height e in
+        falls_then P F D r f h (k l) (λ us x. d us l x) (λ a us x. g a us l x))
+    by false e = now
+
+-- where no more is read
+pub falls_last : {A B : Type 0} (F D : List Token → Type 0) (r : Reads A) (make : A → B)
+    → Falls F r → ((us : List Token) → F us → D us) → Falls D (then_read r (λ a us. Found (make a) us))
+falls_last F D (Faults deep us) make f d = d us f
+falls_last F D (Found a us) make f d = tt

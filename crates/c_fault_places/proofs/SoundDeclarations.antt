@@ -63,7 +63,7 @@ followed_push tokens (y ∷ ys) (c ∷ cs) x at e =
     ∙ ap (λ ts. mark marks.Comma c ∷ ts) (sym
     (append_assoc (tokens y) (followed tokens ys cs) (mark marks.Comma at ∷ tokens x)))
 
-list_push : {A : Type 0} (tokens : A → List Token) (P : A → Type 0) (ts : List Token) (xs : List A) (commas : List Span)
+pub list_push : {A : Type 0} (tokens : A → List Token) (P : A → Type 0) (ts : List Token) (xs : List A) (commas : List Span)
     (us vs ws : List Token) (at : Span) (x : A) →
     SoundList tokens P ts (xs, commas) us → us ≡ mark marks.Comma at ∷ vs → vs ≡ tokens x ++ ws → P x
     → SoundList tokens P ts (xs ++ x ∷ [], commas ++ at ∷ []) ws
@@ -84,28 +84,32 @@ list_push tokens P ts (y ∷ ys) commas us vs ws at x s f g p =
 abbrev pub One : {A : Type 0} → (A → List Token) → (A → Type 0) → List Token → A → List Token → Type 0
 One tokens P ts x us = (ts ≡ tokens x ++ us) × P x
 
+pub list_keeps : {A : Type 0} (tokens : A → List Token) (P : A → Type 0) (read : List Token → Reads A)
+    → ((ts : List Token) → Holds (One tokens P ts) (read ts)) → (ts : List Token) (l : Listed A) (vs : List Token)
+    → SoundList tokens P ts l vs → (o : Takes Span) → HoldsTaken (λ at ws. vs ≡ mark marks.Comma at ∷ ws) o
+    → HoldsStep (SoundList tokens P ts) (list_at read l o)
+list_keeps tokens P read sound ts l vs s None h = tt
+list_keeps tokens P read sound ts l vs s (Some (at, ws)) h =
+    step_then (One tokens P ws) (SoundList tokens P ts) (read ws) _ (sound ws)
+    (λ y xs g. list_push tokens P ts l.0 l.1 vs ws xs at y s h g.0 g.1)
+
 pub sound_more : {A : Type 0} (tokens : A → List Token) (P : A → Type 0) (read : List Token → Reads A)
     → ((ts : List Token) → Holds (One tokens P ts) (read ts)) → (ts : List Token) (x : A) (us : List Token)
     → One tokens P ts x us → Holds (SoundList tokens P ts) (read_more read x us)
-sound_more {A} tokens P read sound ts x us one =
+sound_more tokens P read sound ts x us one =
     holds_chain (SoundList tokens P ts) (list_step read)
-    (λ l vs s. turn l vs s (take_mark marks.Comma vs) (mark_taken marks.Comma vs)) (length us) (x ∷ [], []) us
+    (λ l vs s. list_keeps tokens P read sound ts l vs s (take_mark marks.Comma vs) (mark_taken marks.Comma vs))
+    (length us) (x ∷ [], []) us
     (record {
       tokens_are = one.0 ∙ ap (λ zs. zs ++ us) (sym (append-nil (tokens x)));
       all = (one.1, tt);
       apart = refl;
       some = omega arith;
     })
-  where
-    turn : (l : Listed A) (vs : List Token) → SoundList tokens P ts l vs → (o : Takes Span)
-        → HoldsTaken (λ at ws. vs ≡ mark marks.Comma at ∷ ws) o → HoldsStep (SoundList tokens P ts) (list_at read l o)
-    turn l vs s None h = tt
-    turn l vs s (Some (at, ws)) h = step_then (One tokens P ws) (SoundList tokens P ts) (read ws) _ (sound ws)
-        (λ y xs g. list_push tokens P ts l.0 l.1 vs ws xs at y s h g.0 g.1)
 
 -- ---- declarators
 
-name_taken : (ts : List Token) → ts ≡ maybe_name_tokens (take_name ts).0 ++ (take_name ts).1
+pub name_taken : (ts : List Token) → ts ≡ maybe_name_tokens (take_name ts).0 ++ (take_name ts).1
 name_taken [] = refl
 name_taken (t ∷ ts) = by_kind t.kind t.at
   where
@@ -136,7 +140,7 @@ sound_maybe c h read sound m ts = under (take_mark m ts)
     under None = holds_then (Sound c h ts) (SoundMaybe c h ts) (read ts) _ (sound ts)
         (λ e us s. record { tokens = s.tokens; fits = (s.is, s.loose); low = s.low })
 
-conditional_is : (e : Option Expr) → MaybeIs 14 e → IsMaybeConditional e
+pub conditional_is : (e : Option Expr) → MaybeIs 14 e → IsMaybeConditional e
 conditional_is None is = tt
 conditional_is (Some e) is = is
 
@@ -199,7 +203,7 @@ sound_parameter n b sb ts = under (take_specifiers ts).0 (take_specifiers ts).1 
         )))
 
 -- elements that are so high at most
-all_low : {A : Type 0} (P : A → Type 0) (height : A → ℕ) (h : ℕ) (xs : List A)
+pub all_low : {A : Type 0} (P : A → Type 0) (height : A → ℕ) (h : ℕ) (xs : List A)
     → AllByRecursion (λ x. P x × (height x ≤ h)) xs → AllByRecursion P xs × (greatest height xs ≤ h)
 all_low P height h [] all = (tt, omega arith)
 all_low P height h (x ∷ xs) all = (let r = all_low P height h xs all.1 in ((all.0.0, r.0), omega (arith, all.0.1, r.1)))
@@ -291,7 +295,7 @@ pub record SoundBraced (h : ℕ) (ts : List Token) (braced : Braced) (us : List 
   pub low : exprs_height (exprs_of braced.0.0) ≤ h
   pub some : 1 ≤ length braced.0.0
 
-without_comma : (h : ℕ) (ts : List Token) (values : Values) (us : List Token) → SoundValues h ts values us
+pub without_comma : (h : ℕ) (ts : List Token) (values : Values) (us : List Token) → SoundValues h ts values us
     → SoundBraced h ts (values, None) us
 without_comma h ts values us s =
     record {
@@ -302,7 +306,7 @@ without_comma h ts values us s =
       some = s.some;
     }
 
-only_values : (h : ℕ) (ts : List Token) (values : Values) (us : List Token) → SoundBraced h ts (values, None) us
+pub only_values : (h : ℕ) (ts : List Token) (values : Values) (us : List Token) → SoundBraced h ts (values, None) us
     → SoundValues h ts values us
 only_values h ts values us s =
     record {
@@ -355,7 +359,7 @@ sound_values n b sb ts = holds_then (Sound 15 n ts) (SoundBraced n ts) (b.assign
 abbrev pub IsLowInitialiser : ℕ → InitialiserTree → Type 0
 IsLowInitialiser h i = IsInitialiser i × (initialiser_height i ≤ h)
 
-braces_are : (n : ℕ) (o : Span) (es : List Expr) (commas : List Span) (trailing : Option Span) (c : Span)
+pub braces_are : (n : ℕ) (o : Span) (es : List Expr) (commas : List Span) (trailing : Option Span) (c : Span)
     → 1 ≤ length es → AreValues (exprs_of es) → Separate (exprs_of es) commas → exprs_height (exprs_of es) ≤ n
     → IsLowInitialiser n (Braces o (exprs_of es) commas trailing c)
 braces_are n o [] commas trailing c some are apart low = absurd (omega arith)
@@ -420,7 +424,7 @@ sound_item n b sb ts = holds_then (One declarator_tokens (IsLowDeclarator n) ts)
 abbrev pub IsLowDeclaration : ℕ → DeclarationTree → Type 0
 IsLowDeclaration h d = IsDeclaration d × (declaration_height d ≤ h)
 
-items_are : (is : List ItemTree) → 1 ≤ length is → AllByRecursion IsItem is → AreItems is
+pub items_are : (is : List ItemTree) → 1 ≤ length is → AllByRecursion IsItem is → AreItems is
 items_are [] some all = absurd (omega arith)
 items_are (i ∷ is) some all = all
 
