@@ -11,4 +11,5 @@ pub mod SoundStatements
 pub mod Right
 pub mod RightExpressions
 pub mod RightDeclarations
+pub mod RightStatements
 pub mod Exact

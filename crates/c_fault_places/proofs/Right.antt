@@ -197,3 +197,10 @@ pub falls_last : {A B : Type 0} (F D : List Token → Type 0) (r : Reads A) (mak
     → Falls F r → ((us : List Token) → F us → D us) → Falls D (then_read r (λ a us. Found (make a) us))
 falls_last F D (Faults deep us) make f d = d us f
 falls_last F D (Found a us) make f d = tt
+
+pub mark_falls : (m : Punct) (ts : List Token) → Falls (λ us. ts ≡ us) (read_mark m ts)
+mark_falls m ts = by (take_mark m ts)
+  where
+    by : (o : Takes Span) → Falls (λ us. ts ≡ us) (needed ts o)
+    by None = refl
+    by (Some (at, us)) = tt

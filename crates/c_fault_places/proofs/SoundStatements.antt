@@ -89,12 +89,12 @@ sound_condition n b sb ts =
     })))
 
 -- what stands behind parentheses
-behind_parens : (o : Span) (e : Expr) (c : Span) (xs ys : List Token) → in_parens o e c (xs ++ ys)
+pub behind_parens : (o : Span) (e : Expr) (c : Span) (xs ys : List Token) → in_parens o e c (xs ++ ys)
     ≡ in_parens o e c xs ++ ys
 behind_parens o e c xs ys = ap (λ zs. mark marks.LeftParen o ∷ zs)
     (sym (append_assoc (expr_tokens e) (mark marks.RightParen c ∷ xs) ys))
 
-maybe_is : (e : Option Expr) → MaybeIs 16 e → IsMaybeExpr e
+pub maybe_is : (e : Option Expr) → MaybeIs 16 e → IsMaybeExpr e
 maybe_is None is = tt
 maybe_is (Some e) is = is.0
 
@@ -109,31 +109,29 @@ pub record SoundRow (K : Stmt → Type 0) (h : ℕ) (ts : List Token) (ss : List
   pub all : AllStmts K ss
   pub low : stmts_height (stmts_of ss) ≤ h
 
-row_tokens : (ss : List Stmt) (s : Stmt) → stmts_tokens (stmts_of (ss ++ s ∷ []))
+pub row_tokens : (ss : List Stmt) (s : Stmt) → stmts_tokens (stmts_of (ss ++ s ∷ []))
     ≡ stmts_tokens (stmts_of ss) ++ stmt_tokens s
 row_tokens [] s = append-nil (stmt_tokens s)
 row_tokens (x ∷ xs) s = ap (λ zs. stmt_tokens x ++ zs) (row_tokens xs s)
     ∙ sym (append_assoc (stmt_tokens x) (stmts_tokens (stmts_of xs)) (stmt_tokens s))
 
-row_height : (ss : List Stmt) (s : Stmt) → stmts_height (stmts_of (ss ++ s ∷ []))
+pub row_height : (ss : List Stmt) (s : Stmt) → stmts_height (stmts_of (ss ++ s ∷ []))
     ≡ max (stmts_height (stmts_of ss)) (stmt_height s)
 row_height [] s = omega arith
 row_height (x ∷ xs) s = omega (arith, row_height xs s)
 
-row_all : (K : Stmt → Type 0) (ss : List Stmt) (s : Stmt) → AllStmts K ss → IsStmt s → K s → AllStmts K (ss ++ s ∷ [])
+pub row_all : (K : Stmt → Type 0) (ss : List Stmt) (s : Stmt) → AllStmts K ss → IsStmt s → K s → AllStmts K (ss ++ s ∷ [])
 row_all K [] s all is k = (is, k, tt)
 row_all K (x ∷ xs) s all is k = (all.0, all.1, row_all K xs s all.2 is k)
 
-pub sound_row : (K : Stmt → Type 0) (h : ℕ) (read : StmtReader) → SoundStatements K h read → (ts : List Token)
-    → Holds (SoundRow K h ts) (read_until read ts)
-sound_row K h read reads ts =
-    holds_chain (SoundRow K h ts) (until_step read) (λ a us s. turn a us s (take_mark marks.RightBrace us)) (length ts)
-    [] ts (record { tokens = refl; all = tt; low = omega arith })
+-- one more statement
+pub row_keeps : (K : Stmt → Type 0) (h : ℕ) (read : StmtReader) → SoundStatements K h read → (ts : List Token)
+    (a : List Stmt) (us : List Token) → SoundRow K h ts a us → HoldsStep (SoundRow K h ts) (until_step read a us)
+row_keeps K h read reads ts a us s = turn (take_mark marks.RightBrace us)
   where
-    turn : (a : List Stmt) (us : List Token) → SoundRow K h ts a us → (o : Takes Span)
-        → HoldsStep (SoundRow K h ts) (until_at read a o us)
-    turn a us s (Some close) = tt
-    turn a us s None =
+    turn : (o : Takes Span) → HoldsStep (SoundRow K h ts) (until_at read a o us)
+    turn (Some close) = tt
+    turn None =
         step_then (SoundStmt K h us) (SoundRow K h ts) (read us) _ (reads us) (λ x vs g.
         record {
           tokens = s.tokens ∙ (ap (λ zs. stmts_tokens (stmts_of a) ++ zs) g.tokens
@@ -143,11 +141,17 @@ sound_row K h read reads ts =
           low = omega (arith, row_height a x, s.low, g.low);
         })
 
-items_are : (ss : List Stmt) → AllStmts IsBlockItem ss → AreItems (stmts_of ss)
+pub sound_row : (K : Stmt → Type 0) (h : ℕ) (read : StmtReader) → SoundStatements K h read → (ts : List Token)
+    → Holds (SoundRow K h ts) (read_until read ts)
+sound_row K h read reads ts = holds_chain (SoundRow K h ts) (until_step read)
+    (λ a us s. row_keeps K h read reads ts a us s) (length ts) []
+    ts (record { tokens = refl; all = tt; low = omega arith })
+
+pub items_are : (ss : List Stmt) → AllStmts IsBlockItem ss → AreItems (stmts_of ss)
 items_are [] all = tt
 items_are (s ∷ ss) all = (all.0, all.1, items_are ss all.2)
 
-cases_are : (ss : List Stmt) → AllStmts IsCase ss → AreCases (stmts_of ss)
+pub cases_are : (ss : List Stmt) → AllStmts IsCase ss → AreCases (stmts_of ss)
 cases_are [] all = tt
 cases_are (s ∷ ss) all = (all.0, all.1, cases_are ss all.2)
 
@@ -174,7 +178,7 @@ sound_block n b sb o ts =
     }))
 
 -- where an `else` comes next, no statement before it ends in an open `if`
-not_open : (x : Bool) (r : Takes Span) (p : Span × List Token) → r ≡ Some p → (x ≡ true → r ≡ None) → x ≡ false
+pub not_open : (x : Bool) (r : Takes Span) (p : Span × List Token) → r ≡ Some p → (x ≡ true → r ≡ None) → x ≡ false
 not_open false r p e h = refl
 not_open true r p e h = absurd (let wrong : Some p ≡ None = sym e ∙ h refl in cc)
 
@@ -470,7 +474,7 @@ sound_statement n b sb ts = blocks (take_mark marks.LeftBrace ts) (mark_taken ma
 
 -- ---- block items and labels
 
-plain_item : (s : Stmt) → IsPlain s → IsBlockItem s
+pub plain_item : (s : Stmt) → IsPlain s → IsBlockItem s
 plain_item (Labelled before s) plain = absurd plain
 plain_item (Declared d) plain = tt
 plain_item _ plain = tt
@@ -503,12 +507,12 @@ pub record SoundLabels (h : ℕ) (ts : List Token) (ls : List LabelTree) (us : L
   pub all : AllByRecursion IsLabel ls
   pub low : greatest label_height ls ≤ h
 
-labels_push : (ls : List LabelTree) (l : LabelTree) → labels_tokens (ls ++ l ∷ []) ≡ labels_tokens ls ++ label_tokens l
+pub labels_push : (ls : List LabelTree) (l : LabelTree) → labels_tokens (ls ++ l ∷ []) ≡ labels_tokens ls ++ label_tokens l
 labels_push [] l = append-nil (label_tokens l)
 labels_push (x ∷ xs) l = ap (λ zs. label_tokens x ++ zs) (labels_push xs l)
     ∙ sym (append_assoc (label_tokens x) (labels_tokens xs) (label_tokens l))
 
-labels_low : (ls : List LabelTree) (l : LabelTree) → greatest label_height (ls ++ l ∷ [])
+pub labels_low : (ls : List LabelTree) (l : LabelTree) → greatest label_height (ls ++ l ∷ [])
     ≡ max (greatest label_height ls) (label_height l)
 labels_low [] l = omega arith
 labels_low (x ∷ xs) l = omega (arith, labels_low xs l)
@@ -524,25 +528,23 @@ one_label h ts ls us l vs s f is low =
       low = omega (arith, labels_low ls l, s.low, low);
     }
 
-pub sound_labels : (h : ℕ) (read : Reader) → SoundReader 14 h read → (ts : List Token)
-    → Holds (SoundLabels h ts) (read_labels read ts)
-sound_labels h read reads ts =
-    holds_chain (SoundLabels h ts) (label_step read)
-    (λ a us s. cases a us s (take_word words.Case us) (word_taken words.Case us)) (length ts) [] ts
-    (record { tokens = refl; all = tt; low = omega arith })
+-- one more label
+pub label_keeps : (h : ℕ) (read : Reader) → SoundReader 14 h read → (ts : List Token) (a : List LabelTree)
+    (us : List Token) → SoundLabels h ts a us → HoldsStep (SoundLabels h ts) (label_step read a us)
+label_keeps h read reads ts a us s = cases (take_word words.Case us) (word_taken words.Case us)
   where
-    defaults : (a : List LabelTree) (us : List Token) → SoundLabels h ts a us → (o : Takes Span)
-        → HoldsTaken (λ at vs. us ≡ word words.Default at ∷ vs) o → HoldsStep (SoundLabels h ts) (default_at a o)
-    defaults a us s None f = tt
-    defaults a us s (Some (at, vs)) f =
+    defaults : (o : Takes Span) → HoldsTaken (λ at vs. us ≡ word words.Default at ∷ vs) o
+        → HoldsStep (SoundLabels h ts) (default_at a o)
+    defaults None f = tt
+    defaults (Some (at, vs)) f =
         step_then (λ c ws. vs ≡ mark marks.Colon c ∷ ws) (SoundLabels h ts) (read_mark marks.Colon vs) _
         (mark_read marks.Colon vs) (λ c ws g.
         one_label h ts a us (Default at c) ws s (f ∙ ap (λ zs. word words.Default at ∷ zs) g) tt (omega arith))
 
-    cases : (a : List LabelTree) (us : List Token) → SoundLabels h ts a us → (o : Takes Span)
-        → HoldsTaken (λ at vs. us ≡ word words.Case at ∷ vs) o → HoldsStep (SoundLabels h ts) (label_at read a o us)
-    cases a us s None f = defaults a us s (take_word words.Default us) (word_taken words.Default us)
-    cases a us s (Some (at, vs)) f =
+    cases : (o : Takes Span) → HoldsTaken (λ at vs. us ≡ word words.Case at ∷ vs) o
+        → HoldsStep (SoundLabels h ts) (label_at read a o us)
+    cases None f = defaults (take_word words.Default us) (word_taken words.Default us)
+    cases (Some (at, vs)) f =
         step_then (Sound 14 h vs) (SoundLabels h ts) (read vs) _ (reads vs) (λ e ws g.
         step_then (λ c xs. ws ≡ mark marks.Colon c ∷ xs) (SoundLabels h ts) (read_mark marks.Colon ws) _
         (mark_read marks.Colon ws) (λ c xs i.
@@ -550,6 +552,12 @@ sound_labels h read reads ts =
         ∙ ap (λ zs. word words.Case at ∷ zs) (g.tokens
         ∙ (ap (λ zs. expr_tokens e ++ zs) i ∙ sym (append_assoc (expr_tokens e) (mark marks.Colon c ∷ []) xs))))
         (g.is, g.loose) g.low))
+
+pub sound_labels : (h : ℕ) (read : Reader) → SoundReader 14 h read → (ts : List Token)
+    → Holds (SoundLabels h ts) (read_labels read ts)
+sound_labels h read reads ts = holds_chain (SoundLabels h ts) (label_step read)
+    (λ a us s. label_keeps h read reads ts a us s) (length ts) [] ts
+    (record { tokens = refl; all = tt; low = omega arith })
 
 pub sound_labelled : (n : ℕ) (b : Below) → SoundBelow n b → (r : Readers) → SoundReaders (suc n) r
     → SoundStatements IsCase (suc n) (read_labelled r.conditional (read_statement b))
@@ -605,13 +613,13 @@ sound_below (suc n) =
 abbrev pub IsLowExternal : ℕ → ExternalTree → Type 0
 IsLowExternal h e = IsExternal e × (external_height e ≤ h)
 
-has_part : (part : PartTree) → has_parameters part ≡ true → HasParameters part
+pub has_part : (part : PartTree) → has_parameters part ≡ true → HasParameters part
 has_part (Function p) e = tt
 has_part Plain e = never e
 has_part (Array a) e = never e
 
 -- a statement that begins with `{` is a block
-block_alone : (s : Stmt) (us : List Token) (x : Span × List Token) → IsStmt s → IsPlain s
+pub block_alone : (s : Stmt) (us : List Token) (x : Span × List Token) → IsStmt s → IsPlain s
     → take_mark marks.LeftBrace (stmt_tokens s ++ us) ≡ Some x → IsBlock s
 block_alone (Block o items c) us x is plain e = tt
 block_alone (Declared d) us x is plain e = absurd plain
@@ -687,13 +695,13 @@ pub record SoundUnit (h : ℕ) (ts : List Token) (es : List ExternalTree) (us : 
   pub all : AllByRecursion IsExternal es
   pub low : greatest external_height es ≤ h
 
-unit_push : (es : List ExternalTree) (e : ExternalTree) → unit_tokens (es ++ e ∷ [])
+pub unit_push : (es : List ExternalTree) (e : ExternalTree) → unit_tokens (es ++ e ∷ [])
     ≡ unit_tokens es ++ external_tokens e
 unit_push [] e = append-nil (external_tokens e)
 unit_push (x ∷ xs) e = ap (λ zs. external_tokens x ++ zs) (unit_push xs e)
     ∙ sym (append_assoc (external_tokens x) (unit_tokens xs) (external_tokens e))
 
-unit_low : (es : List ExternalTree) (e : ExternalTree) → greatest external_height (es ++ e ∷ [])
+pub unit_low : (es : List ExternalTree) (e : ExternalTree) → greatest external_height (es ++ e ∷ [])
     ≡ max (greatest external_height es) (external_height e)
 unit_low [] e = omega arith
 unit_low (x ∷ xs) e = omega (arith, unit_low xs e)
