@@ -102,20 +102,30 @@ higher_begins : Right → (k : ℕ) (before : List Token) (t : Token) (us : List
     → read_unit (below_of k) (before ++ t ∷ us) ≡ o → Past (t ∷ us) o → Begins (suc k) (before ++ t ∷ [])
 higher_begins right k before t us (Found es vs) e past =
     (let s : SoundUnit (suc k) (before ++ t ∷ us) es vs =
-        subst (λ r. Holds (SoundUnit (suc k) (before ++ t ∷ us)) r) e (sound_unit k (before ++ t ∷ us)) in
-    let m = further before (unit_tokens es) t us vs s.tokens past in
-    (m.0, greatest external_height es, es, s.low, record {
-      is = s.all;
-      tokens_are = append_assoc before (t ∷ []) m.0 ∙ sym m.1;
-      height_is = refl;
-    }))
+    subst (λ r. Holds (SoundUnit (suc k) (before ++ t ∷ us)) r) e (sound_unit k (before ++ t ∷ us)) in
+    let m = further before (unit_tokens es) t us vs s.tokens past in (
+      m.0,
+      greatest external_height es,
+      es,
+      s.low,
+      record {
+        is = s.all;
+        tokens_are = append_assoc before (t ∷ []) m.0 ∙ sym m.1;
+        height_is = refl;
+      },
+    ))
 higher_begins right k before t us (Faults deep vs) e past =
     (let r = right k (before ++ t ∷ us) deep vs e in
     let m = further before r.0 t us vs r.1 past in
-    let tree : Tree (r.0 ++ r.2.0) r.2.1 r.2.2 = r.2.4 in
-    (m.0 ++ r.2.0, r.2.1, r.2.2, r.2.3, subst (λ y. Tree y r.2.1 r.2.2)
-    (ap (λ y. y ++ r.2.0) m.1 ∙ (append_assoc before (t ∷ m.0) r.2.0
-    ∙ sym (append_assoc before (t ∷ []) (m.0 ++ r.2.0)))) tree))
+    let tree : Tree (r.0 ++ r.2.0) r.2.1 r.2.2 = r.2.4 in (
+      m.0 ++ r.2.0,
+      r.2.1,
+      r.2.2,
+      r.2.3,
+      subst (λ y. Tree y r.2.1 r.2.2)
+          (ap (λ y. y ++ r.2.0) m.1 ∙ (append_assoc before (t ∷ m.0) r.2.0
+          ∙ sym (append_assoc before (t ∷ []) (m.0 ++ r.2.0)))) tree,
+    ))
 
 never_past : {A : Type 0} (o : Reads A) → Past [] o → ⊥
 never_past (Found a vs) p = absurd (omega arith)
@@ -128,15 +138,24 @@ place_of : Rises → Right → (n : ℕ) (ts : List Token) (deep : Bool) (us bef
 place_of rises right n ts true [] before r e same begins =
     absurd (never_past (read_unit (below_of (n + 3)) ts)
     (subst (λ o. RisesTo o (read_unit (below_of (n + 3)) ts)) r (rises n (n + 3) (omega arith) ts)))
-place_of rises right n ts false [] before r e same begins = (refl, begins, λ h x tree.
-    none_at_all rises n ts [] r h x (subst (λ y. Tree y h x) (sym (e ∙ append-nil before)) tree))
+place_of rises right n ts false [] before r e same begins = (
+  refl,
+  begins,
+  λ h x tree.
+      none_at_all rises n ts [] r h x (subst (λ y. Tree y h x) (sym (e ∙ append-nil before)) tree),
+)
 place_of rises right n ts false (t ∷ us) before r e same begins =
     (begins, none_begins rises n before t (λ w. same (t ∷ w) refl))
-place_of rises right n ts true (t ∷ us) before r e same begins =
-    (begins, none_low n before t (λ w. same (t ∷ w) refl),
-    (suc (n + 3), higher_begins right (n + 3) before t us (read_unit (below_of (n + 3)) (before ++ t ∷ us)) refl
-    (subst (λ y. Past (t ∷ us) (read_unit (below_of (n + 3)) y)) e
-    (subst (λ o. RisesTo o (read_unit (below_of (n + 3)) ts)) r (rises n (n + 3) (omega arith) ts)))))
+place_of rises right n ts true (t ∷ us) before r e same begins = (
+  begins,
+  none_low n before t (λ w. same (t ∷ w) refl),
+  (
+    suc (n + 3),
+    higher_begins right (n + 3) before t us (read_unit (below_of (n + 3)) (before ++ t ∷ us)) refl
+        (subst (λ y. Past (t ∷ us) (read_unit (below_of (n + 3)) y)) e
+        (subst (λ o. RisesTo o (read_unit (below_of (n + 3)) ts)) r (rises n (n + 3) (omega arith) ts))),
+  ),
+)
 
 -- Where the reading of a unit faults, what is before that begins a program, and the fault stands there.
 pub exact : Prompts → Rises → Right → (n : ℕ) (ts : List Token) (deep : Bool) (us : List Token)
@@ -144,7 +163,10 @@ pub exact : Prompts → Rises → Right → (n : ℕ) (ts : List Token) (deep : 
     → (before : List Token) × (ts ≡ before ++ us) × FaultAt (suc n) (kind_of deep) before us
 exact prompt rises right n ts deep us reads =
     (let k : Kept (read_unit (below_of n)) ts (Faults deep us) =
-        subst (λ o. Kept (read_unit (below_of n)) ts o) reads (prompt n ts) in
-    let r = right n ts deep us reads in
-    (k.0, k.1, place_of rises right n ts deep us k.0 reads k.1 k.2
-    (subst (λ b. Begins (suc n) b) (one_prefix r.0 k.0 us (sym r.1 ∙ k.1)) r.2)))
+    subst (λ o. Kept (read_unit (below_of n)) ts o) reads (prompt n ts) in
+    let r = right n ts deep us reads in (
+      k.0,
+      k.1,
+      place_of rises right n ts deep us k.0 reads k.1 k.2
+          (subst (λ b. Begins (suc n) b) (one_prefix r.0 k.0 us (sym r.1 ∙ k.1)) r.2),
+    ))

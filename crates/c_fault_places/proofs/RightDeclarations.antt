@@ -86,13 +86,14 @@ list_begun tokens P ts xs commas us vs zs at s f (y, swap, p) =
     (let full : List Token = separated tokens xs commas in
     let tail : List Token = tokens y ++ [] in
     let old : SoundList tokens P (full ++ mark marks.Comma at ∷ tail) (xs, commas) (mark marks.Comma at ∷ tail) =
-        record { tokens_are = refl; all = s.all; apart = s.apart; some = s.some } in
+    record { tokens_are = refl; all = s.all; apart = s.apart; some = s.some } in
     let g = list_push tokens P (full ++ mark marks.Comma at ∷ tail) xs commas (mark marks.Comma at ∷ tail) tail [] at y
-        old refl refl p in
-    ((xs ++ y ∷ [], commas ++ at ∷ []),
-    s_to (g.tokens_are ∙ append-nil (separated tokens (xs ++ y ∷ []) (commas ++ at ∷ [])))
-    (s_eq s.tokens_are (s_left full (s_eq f (s_cons (s_app [] swap))))),
-    (g.all, g.apart, g.some)))
+    old refl refl p in (
+      (xs ++ y ∷ [], commas ++ at ∷ []),
+      s_to (g.tokens_are ∙ append-nil (separated tokens (xs ++ y ∷ []) (commas ++ at ∷ [])))
+          (s_eq s.tokens_are (s_left full (s_eq f (s_cons (s_app [] swap))))),
+      (g.all, g.apart, g.some),
+    ))
 
 right_more : {A : Type 0} (tokens : A → List Token) (P : A → Type 0) (read : List Token → Reads A)
     → ((ts : List Token) → Holds (One tokens P ts) (read ts))
@@ -133,8 +134,7 @@ right_array n b sb r o ts =
       (conditional_is size fits, low),
     ))
     (λ size us s.
-    falls_mark (ArrayBegun n (mark marks.LeftBracket o ∷ ts)) marks.RightBracket us _
-    (
+    falls_mark (ArrayBegun n (mark marks.LeftBracket o ∷ ts)) marks.RightBracket us _ (
       record { opening = o; size = size; close = here },
       s_cons (s_eq s.tokens (s_left (maybe_expr_tokens size) (s_here refl))),
       (conditional_is size s.fits, s.low),
@@ -231,8 +231,7 @@ right_part n b sb r ts = brackets (take_mark marks.LeftBracket ts) (mark_taken m
           ((all, apart), low),
         ))
         (λ l vs s.
-        falls_mark (PartBegun n ts) marks.RightParen vs _
-        (
+        falls_mark (PartBegun n ts) marks.RightParen vs _ (
           Function (record { opening = o; parameters = l.0; commas = l.1; close = here }),
           s_eq h (s_cons (s_eq s.tokens_are (s_left (list_tokens parameter_tokens l) (s_here refl)))),
           ((s.all, s.apart), s.low),
@@ -335,8 +334,7 @@ right_initialiser n b sb r high ts = under (take_mark marks.LeftBrace ts) (mark_
     closed : (o : Span) (us zs : List Token) → ts ≡ mark marks.LeftBrace o ∷ us → BracedBegun n us zs
         → InitialiserBegun n ts zs
     closed o us zs h (braced, swap, (are, apart, low, some)) =
-        (let values : List Token = exprs_tokens (exprs_of braced.0.0) braced.0.1 in
-        (
+        (let values : List Token = exprs_tokens (exprs_of braced.0.0) braced.0.1 in (
           Braces o (exprs_of braced.0.0) braced.0.1 braced.1 here,
           s_eq h (s_cons (s_to (append_assoc values (maybe_comma_tokens braced.1) (mark marks.RightBrace here ∷ []))
               (s_app (mark marks.RightBrace here ∷ []) swap))),
@@ -405,8 +403,7 @@ DeclarationBegun h ts us = Begun declaration_tokens (IsLowDeclaration h) ts us
 ended : (n : ℕ) (ts : List Token) (ss : List Specifier) (us vs : List Token) → IsSpecifiers ss
     → ts ≡ specifiers_tokens ss ++ us → ListBegun item_tokens (IsLowItem n) us vs → DeclarationBegun (suc n) ts vs
 ended n ts ss us vs is h (l, swap, (all, apart, some)) =
-    (let q = all_low IsItem item_height n l.0 all in
-    (
+    (let q = all_low IsItem item_height n l.0 all in (
       record { specifiers = ss; items = l.0; commas = l.1; semicolon = here },
       s_eq h (s_left (specifiers_tokens ss) (s_app (mark marks.Semicolon here ∷ []) swap)),
       ((is, items_are l.0 some q.0, apart), omega (arith, q.1)),

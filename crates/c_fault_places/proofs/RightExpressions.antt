@@ -114,14 +114,15 @@ push_begun h ts es commas us vs zs at s f (e, swap, (is, loose, low)) =
     (let full : List Token = exprs_tokens (exprs_of es) commas in
     let tail : List Token = expr_tokens e ++ [] in
     let old : SoundValues h (full ++ mark marks.Comma at ∷ tail) (es, commas) (mark marks.Comma at ∷ tail) =
-        record { tokens = refl; are = s.are; apart = s.apart; low = s.low; some = s.some } in
+    record { tokens = refl; are = s.are; apart = s.apart; low = s.low; some = s.some } in
     let next : Sound 15 h tail e [] = record { tokens = refl; is = is; loose = loose; low = low } in
     let g = values_push h (full ++ mark marks.Comma at ∷ tail) es commas (mark marks.Comma at ∷ tail) tail [] at e old
-        refl next in
-    ((es ++ e ∷ [], commas ++ at ∷ []),
-    s_to (g.tokens ∙ append-nil (exprs_tokens (exprs_of (es ++ e ∷ [])) (commas ++ at ∷ [])))
-    (s_eq s.tokens (s_left full (s_eq f (s_cons (s_app [] swap))))),
-    ((g.are, g.apart, g.low), g.some)))
+    refl next in (
+      (es ++ e ∷ [], commas ++ at ∷ []),
+      s_to (g.tokens ∙ append-nil (exprs_tokens (exprs_of (es ++ e ∷ [])) (commas ++ at ∷ [])))
+          (s_eq s.tokens (s_left full (s_eq f (s_cons (s_app [] swap))))),
+      ((g.are, g.apart, g.low), g.some),
+    ))
 
 pub value_falls : (n : ℕ) (b : Readers) → SoundReaders n b → RightReaders n b → (ts : List Token) (a : Values)
     (us : List Token) → SoundValues n ts a us → FallsStep (SomeBegun n ts) (value_step b a us)
@@ -180,8 +181,7 @@ right_call n b sb r f ts = under (take_mark marks.LeftParen ts) (mark_taken mark
           ((are, apart), omega arith, omega (arith, low)),
         ))
         (λ values vs s.
-        falls_mark (ExprBegun 0 (suc n) (ident f.name f.at ∷ ts)) marks.RightParen vs _
-        (
+        falls_mark (ExprBegun 0 (suc n) (ident f.name f.at ∷ ts)) marks.RightParen vs _ (
           Call f o (exprs_of values.0) values.1 here,
           s_cons (s_eq h (s_cons (s_eq s.tokens (s_left (values_tokens values) (s_here refl))))),
           ((s.are, s.apart), omega arith, omega (arith, s.low)),
@@ -195,8 +195,7 @@ right_parens n b sb r o ts =
     (mark marks.LeftParen o) ts (b.expression ts) _ (none 0 n _ _ refl) (sb.expression ts) (r.expression ts)
     (λ us some g. inside us (begun 16 n ts us (omega (arith, some, r.height)) g))
     (λ e us some s.
-    falls_mark (ExprBegun 0 (suc n) (mark marks.LeftParen o ∷ ts)) marks.RightParen us _
-    (
+    falls_mark (ExprBegun 0 (suc n) (mark marks.LeftParen o ∷ ts)) marks.RightParen us _ (
       Parenthesised o e here,
       s_cons (s_eq s.tokens (s_left (expr_tokens e) (s_here refl))),
       (s.is, omega arith, omega (arith, s.low)),
@@ -325,8 +324,7 @@ right_cast n b sb r ts = under (take_mark marks.LeftParen ts) (mark_taken marks.
         ≡ mark marks.LeftParen o ∷ us → us ≡ specifiers_tokens ss ++ vs → IsSpecifiers ss
         → Falls (ExprBegun 3 (suc n) ts) (cast_behind b o ss (take_pointer vs))
     behind o us ss vs high h g some =
-        falls_mark (ExprBegun 3 (suc n) ts) marks.RightParen (take_pointer vs).1 _
-        (
+        falls_mark (ExprBegun 3 (suc n) ts) marks.RightParen (take_pointer vs).1 _ (
           Cast o ss (take_pointer vs).0 here one,
           s_eq h (s_cons (s_eq g (s_left (specifiers_tokens ss)
               (s_eq (pointer_taken vs) (s_left (pointer_tokens (take_pointer vs).0) (s_here refl)))))),

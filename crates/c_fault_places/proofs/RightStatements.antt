@@ -184,8 +184,7 @@ right_block n b sb r o ts =
       (items_are ss all, tt, omega (arith, low)),
     ))
     (λ ss us s.
-    falls_mark (PlainBegun n (mark marks.LeftBrace o ∷ ts)) marks.RightBrace us _
-    (
+    falls_mark (PlainBegun n (mark marks.LeftBrace o ∷ ts)) marks.RightBrace us _ (
       Block o (stmts_of ss) here,
       s_cons (s_eq s.tokens (s_left (row ss) (s_here refl))),
       (items_are ss s.all, tt, omega (arith, s.low)),
@@ -279,8 +278,7 @@ right_do n b sb r at ts =
     (λ some. r.statement ts)
     (λ us some g. start us (omega (arith, some, r.exprs.height))
     (begun_stmt n ts us (omega (arith, some, r.exprs.height)) g)) (λ s us some g.
-    falls_word (PlainBegun n (word words.Do at ∷ ts)) words.While us _
-    (
+    falls_word (PlainBegun n (word words.Do at ∷ ts)) words.While us _ (
       Do at s here here one here here,
       s_cons (s_eq g.tokens (s_left (stmt_tokens s) (s_here refl))),
       ((g.is, g.kind, tt), tt, omega (arith, g.low, some, r.exprs.height)),
@@ -294,8 +292,7 @@ right_do n b sb r at ts =
       ((g.is, g.kind, is), tt, omega (arith, g.low, low)),
     ))
     (λ k ws f.
-    falls_mark (PlainBegun n (word words.Do at ∷ ts)) marks.Semicolon ws _
-    (
+    falls_mark (PlainBegun n (word words.Do at ∷ ts)) marks.Semicolon ws _ (
       Do at s until k.0 k.1 k.2 here,
       s_cons (s_eq g.tokens (s_left (stmt_tokens s) (s_eq h (s_cons
           (s_eq f.tokens (s_parens k.0 k.1 k.2 (s_here refl))))))),
@@ -331,8 +328,7 @@ right_rest n b sb r some ts =
       (maybe_is k fits, tt, tt, tt, omega (arith, low, some)),
     ))
     (λ k us f.
-    falls_mark (RestBegun n ts) marks.Semicolon us _
-    (
+    falls_mark (RestBegun n ts) marks.Semicolon us _ (
       (k, here, None, here, empty),
       s_eq f.tokens (s_left (maybe_expr_tokens k) (s_here refl)),
       (maybe_is k f.fits, tt, tt, tt, omega (arith, f.low, some)),
@@ -348,8 +344,7 @@ right_rest n b sb r some ts =
       (maybe_is k f.fits, maybe_is step fits, tt, tt, omega (arith, f.low, low, some)),
     ))
     (λ step ws h.
-    falls_mark (RestBegun n ts) marks.RightParen ws _
-    (
+    falls_mark (RestBegun n ts) marks.RightParen ws _ (
       (k, second, step, here, empty),
       s_eq f.tokens (s_left (maybe_expr_tokens k) (s_eq g (s_cons
           (s_eq h.tokens (s_left (maybe_expr_tokens step) (s_here refl)))))),
@@ -396,8 +391,7 @@ right_for n b sb r at ts =
           ((maybe_is start fits, tt, tt, tt, tt), tt, omega (arith, low, some)),
         ))
         (λ start vs g.
-        falls_mark (PlainBegun n (word words.For at ∷ ts)) marks.Semicolon vs _
-        (
+        falls_mark (PlainBegun n (word words.For at ∷ ts)) marks.Semicolon vs _ (
           For at o start here None here None here empty,
           s_cons (s_eq f (s_cons (s_eq g.tokens (s_left (maybe_expr_tokens start) (s_here refl))))),
           ((maybe_is start g.fits, tt, tt, tt, tt), tt, omega (arith, g.low, some)),
@@ -439,8 +433,7 @@ right_switch n b sb r at ts =
       ((is, tt), tt, omega (arith, low)),
     ))
     (λ k us some f.
-    falls_mark (PlainBegun n (word words.Switch at ∷ ts)) marks.LeftBrace us _
-    (
+    falls_mark (PlainBegun n (word words.Switch at ∷ ts)) marks.LeftBrace us _ (
       Switch at k.0 k.1 k.2 here (stmts_of []) here,
       s_cons (s_eq f.tokens (s_parens k.0 k.1 k.2 (s_here refl))),
       ((f.is, tt), tt, omega (arith, f.low)),
@@ -455,8 +448,7 @@ right_switch n b sb r at ts =
       ((f.is, cases_are ss all), tt, omega (arith, f.low, low)),
     ))
     (λ ss ws s.
-    falls_mark (PlainBegun n (word words.Switch at ∷ ts)) marks.RightBrace ws _
-    (
+    falls_mark (PlainBegun n (word words.Switch at ∷ ts)) marks.RightBrace ws _ (
       Switch at k.0 k.1 k.2 begin (stmts_of ss) here,
       s_cons (s_eq f.tokens (s_parens k.0 k.1 k.2 (s_eq g (s_cons
           (s_eq s.tokens (s_left (row ss) (s_here refl))))))),
@@ -575,8 +567,7 @@ right_labels h read high reads rights ts =
         → HoldsTaken (λ at vs. us ≡ word words.Default at ∷ vs) o → FallsStep (LabelsBegun h ts) (default_at a o)
     defaults a us s None f = tt
     defaults a us s (Some (at, vs)) f =
-        step_falls_mark (LabelsBegun h ts) marks.Colon vs _
-        (
+        step_falls_mark (LabelsBegun h ts) marks.Colon vs _ (
           a ++ Default at here ∷ [],
           s_to (sym (labels_push a (Default at here))) (s_eq s.tokens (s_left (labels_tokens a)
               (s_eq f (s_cons (s_here refl))))),
@@ -711,9 +702,8 @@ right_external n b sb r ts = under (take_specifiers ts).0 (take_specifiers ts).1
     in_block ss us is h d vs g e p f zs s (is_stmt, plain, low) (x ∷ xs) after same are =
         (let first : take_mark marks.LeftBrace (x ∷ (xs ++ zs)) ≡ Some p = ap (take_mark marks.LeftBrace) (sym same) ∙ f in
         let again : take_mark marks.LeftBrace (stmt_tokens s ++ []) ≡ Some (x.at, (xs ++ after) ++ []) =
-            ap (λ ys. take_mark marks.LeftBrace (ys ++ [])) are
-            ∙ first_mark marks.LeftBrace x (xs ++ zs) ((xs ++ after) ++ []) p first in
-        (
+        ap (λ ys. take_mark marks.LeftBrace (ys ++ [])) are
+        ∙ first_mark marks.LeftBrace x (xs ++ zs) ((xs ++ after) ++ []) p first in (
           FunctionTree ss d s,
           s_eq h (s_left (specifiers_tokens ss) (s_eq g.0 (s_left (declarator_tokens d)
               (record { before = x ∷ xs; same = same; after = after; is = are })))),
@@ -785,5 +775,14 @@ begins_program n ts deep us e =
     of_begun (subst (λ x. Falls (UnitBegun (suc n) ts) x) e (unit_right n ts))
   where
     of_begun : UnitBegun (suc n) ts us → (before : List Token) × (ts ≡ before ++ us) × Begins (suc n) before
-    of_begun (es, swap, (all, low)) = (swap.before, swap.same, (swap.after, greatest external_height es, es, low,
-        record { is = all; tokens_are = sym swap.is; height_is = refl }))
+    of_begun (es, swap, (all, low)) = (
+      swap.before,
+      swap.same,
+      (
+        swap.after,
+        greatest external_height es,
+        es,
+        low,
+        record { is = all; tokens_are = sym swap.is; height_is = refl },
+      ),
+    )

@@ -1,10 +1,11 @@
 //! Laws of the readings: each function's contract is one, and the function does nothing.
 
-ghost use Rattle.std.specs.Prelude.{◌≡◌, ℕ, suc, ◌≤◌, List, []};
+ghost use Rattle.std.specs.Prelude.{◌≡◌, ℕ, suc, ◌≤◌, ◌++◌, Bool, List, []};
 ghost use Rattle.c_lex.specs.declared.token.Token.{Token};
 ghost use Rattle.c_syntax.specs.Statements.{ExternalTree};
 ghost use Rattle.c_syntax.specs.Grammar.{Tree};
-ghost use Rattle.c_fault_places.specs.Chains.{Found};
+ghost use Rattle.c_grammar.specs.Faults.{Begins};
+ghost use Rattle.c_fault_places.specs.Chains.{Found, Faults};
 ghost use Rattle.c_fault_places.specs.StatementReading.{below_of, read_unit};
 
 /// What is read of all tokens, where the height may be at most `suc n`, is their tree, and each tree is read.
@@ -13,4 +14,11 @@ pub fn read_trees()
         → (h : ℕ) × (h ≤ suc n) × Tree ts h t }
     ensures complete { (n : ℕ) (ts : List Token) (h : ℕ) (t : List ExternalTree) → Tree ts h t → h ≤ suc n
         → read_unit (below_of n) ts ≡ Found t [] }
+{}
+
+/// Where the reading of a unit faults, whose height may be at most `suc n`, the tokens before the fault begin a program
+/// of at most this height.
+pub fn faults_begin_programs()
+    ensures { (n : ℕ) (ts : List Token) (deep : Bool) (us : List Token) → read_unit (below_of n) ts ≡ Faults deep us
+        → (before : List Token) × (ts ≡ before ++ us) × Begins (suc n) before }
 {}

@@ -4,4 +4,4 @@
 
 mod laws;
 
-pub use laws::read_trees;
+pub use laws::{faults_begin_programs, read_trees};

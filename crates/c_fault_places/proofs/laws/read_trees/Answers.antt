@@ -1,7 +1,5 @@
 use Rattle.c_fault_places.proofs.SoundStatements.{unit_sound}
 use Rattle.c_fault_places.proofs.StatementComplete.{tree_read}
-use Rattle.c_fault_places.proofs.RightStatements.{begins_program}
-use Rattle.c_fault_places.proofs.Exact.{exact}
 use Rattle.c_fault_places.proofs.laws.read_trees.Goals as goal
 
 pub returns : goal.returns
