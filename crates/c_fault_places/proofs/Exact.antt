@@ -1,9 +1,8 @@
 -- The place of a fault is exact.
 use Rattle.std.specs.List.{AllByRecursion}
 use Rattle.std.proofs.Common.{◌≡◌, ℕ, zero, suc, ◌+◌, ◌≤◌, ◌<◌, Bool, true, false, List, [], ◌∷◌, ◌++◌, length, length-append}
-use Rattle.std.proofs.Common.{refl, ap, sym, ◌∙◌, subst, arith, append_assoc}
+use Rattle.std.proofs.Common.{if◌then◌else◌, refl, ap, sym, ◌∙◌, subst, arith, append_assoc}
 use Rattle.std.proofs.lemmas.List.{append-nil}
-use Rattle.pcc_base.specs.declared.fault.FaultKind.{FaultKind}
 use Rattle.pcc_base.specs.declared.fault.FaultKind.TheVariants.{Syntax, TooDeep}
 use Rattle.c_lex.specs.declared.token.Token.{Token}
 use Rattle.c_syntax.specs.Statements.{ExternalTree}
@@ -15,6 +14,7 @@ use Rattle.c_fault_places.specs.Laws.{Same, Kept, Prompt, Past, RisesTo}
 use Rattle.c_fault_places.specs.StatementReading.{below_of, read_unit}
 use Rattle.c_fault_places.proofs.Sound.{Holds}
 use Rattle.c_fault_places.proofs.SoundStatements.{SoundUnit, sound_unit}
+use Rattle.c_fault_places.proofs.RightStatements.{begins_program}
 use Rattle.c_fault_places.proofs.StatementComplete.{tree_read}
 
 -- the answer for a unit rests on the tokens taken and on the next one
@@ -24,15 +24,6 @@ Prompts = (n : ℕ) → Prompt (read_unit (below_of n))
 -- what three levels more change
 abbrev pub Rises : Type 0
 Rises = (n k : ℕ) → n + 3 ≤ k → (ts : List Token) → RisesTo (read_unit (below_of n) ts) (read_unit (below_of k) ts)
-
--- the tokens taken before a fault begin a program
-abbrev pub Right : Type 0
-Right = (n : ℕ) (ts : List Token) (deep : Bool) (us : List Token) → read_unit (below_of n) ts ≡ Faults deep us
-    → (before : List Token) × (ts ≡ before ++ us) × Begins (suc n) before
-
-abbrev pub kind_of : Bool → FaultKind
-kind_of true = TooDeep
-kind_of false = Syntax
 
 abbrev head_or : Token → List Token → Token
 head_or t [] = t
@@ -98,9 +89,9 @@ none_low n before t same (after, h, x, low, tree) =
     (same after)
 
 -- one of a greater height does
-higher_begins : Right → (k : ℕ) (before : List Token) (t : Token) (us : List Token) (o : Reads (List ExternalTree))
+higher_begins : (k : ℕ) (before : List Token) (t : Token) (us : List Token) (o : Reads (List ExternalTree))
     → read_unit (below_of k) (before ++ t ∷ us) ≡ o → Past (t ∷ us) o → Begins (suc k) (before ++ t ∷ [])
-higher_begins right k before t us (Found es vs) e past =
+higher_begins k before t us (Found es vs) e past =
     (let s : SoundUnit (suc k) (before ++ t ∷ us) es vs =
     subst (λ r. Holds (SoundUnit (suc k) (before ++ t ∷ us)) r) e (sound_unit k (before ++ t ∷ us)) in
     let m = further before (unit_tokens es) t us vs s.tokens past in (
@@ -114,8 +105,8 @@ higher_begins right k before t us (Found es vs) e past =
         height_is = refl;
       },
     ))
-higher_begins right k before t us (Faults deep vs) e past =
-    (let r = right k (before ++ t ∷ us) deep vs e in
+higher_begins k before t us (Faults deep vs) e past =
+    (let r = begins_program k (before ++ t ∷ us) deep vs e in
     let m = further before r.0 t us vs r.1 past in
     let tree : Tree (r.0 ++ r.2.0) r.2.1 r.2.2 = r.2.4 in (
       m.0 ++ r.2.0,
@@ -131,42 +122,42 @@ never_past : {A : Type 0} (o : Reads A) → Past [] o → ⊥
 never_past (Found a vs) p = absurd (omega arith)
 never_past (Faults d vs) p = absurd (omega arith)
 
-place_of : Rises → Right → (n : ℕ) (ts : List Token) (deep : Bool) (us before : List Token)
+place_of : Rises → (n : ℕ) (ts : List Token) (deep : Bool) (us before : List Token)
     → read_unit (below_of n) ts ≡ Faults deep us → (ts ≡ before ++ us)
     → ((w : List Token) → Same us w → read_unit (below_of n) (before ++ w) ≡ Faults deep w) → Begins (suc n) before
-    → FaultAt (suc n) (kind_of deep) before us
-place_of rises right n ts true [] before r e same begins =
+    → FaultAt (suc n) (if deep then TooDeep else Syntax) before us
+place_of rises n ts true [] before r e same begins =
     absurd (never_past (read_unit (below_of (n + 3)) ts)
     (subst (λ o. RisesTo o (read_unit (below_of (n + 3)) ts)) r (rises n (n + 3) (omega arith) ts)))
-place_of rises right n ts false [] before r e same begins = (
+place_of rises n ts false [] before r e same begins = (
   refl,
   begins,
   λ h x tree.
       none_at_all rises n ts [] r h x (subst (λ y. Tree y h x) (sym (e ∙ append-nil before)) tree),
 )
-place_of rises right n ts false (t ∷ us) before r e same begins =
+place_of rises n ts false (t ∷ us) before r e same begins =
     (begins, none_begins rises n before t (λ w. same (t ∷ w) refl))
-place_of rises right n ts true (t ∷ us) before r e same begins = (
+place_of rises n ts true (t ∷ us) before r e same begins = (
   begins,
   none_low n before t (λ w. same (t ∷ w) refl),
   (
     suc (n + 3),
-    higher_begins right (n + 3) before t us (read_unit (below_of (n + 3)) (before ++ t ∷ us)) refl
+    higher_begins (n + 3) before t us (read_unit (below_of (n + 3)) (before ++ t ∷ us)) refl
         (subst (λ y. Past (t ∷ us) (read_unit (below_of (n + 3)) y)) e
         (subst (λ o. RisesTo o (read_unit (below_of (n + 3)) ts)) r (rises n (n + 3) (omega arith) ts))),
   ),
 )
 
 -- Where the reading of a unit faults, what is before that begins a program, and the fault stands there.
-pub exact : Prompts → Rises → Right → (n : ℕ) (ts : List Token) (deep : Bool) (us : List Token)
+pub exact : Prompts → Rises → (n : ℕ) (ts : List Token) (deep : Bool) (us : List Token)
     → read_unit (below_of n) ts ≡ Faults deep us
-    → (before : List Token) × (ts ≡ before ++ us) × FaultAt (suc n) (kind_of deep) before us
-exact prompt rises right n ts deep us reads =
+    → (before : List Token) × (ts ≡ before ++ us) × FaultAt (suc n) (if deep then TooDeep else Syntax) before us
+exact prompt rises n ts deep us reads =
     (let k : Kept (read_unit (below_of n)) ts (Faults deep us) =
     subst (λ o. Kept (read_unit (below_of n)) ts o) reads (prompt n ts) in
-    let r = right n ts deep us reads in (
+    let r = begins_program n ts deep us reads in (
       k.0,
       k.1,
-      place_of rises right n ts deep us k.0 reads k.1 k.2
+      place_of rises n ts deep us k.0 reads k.1 k.2
           (subst (λ b. Begins (suc n) b) (one_prefix r.0 k.0 us (sym r.1 ∙ k.1)) r.2),
     ))

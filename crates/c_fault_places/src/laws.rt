@@ -1,11 +1,13 @@
 //! Laws of the readings: each function's contract is one, and the function does nothing.
 
-ghost use Rattle.std.specs.Prelude.{◌≡◌, ℕ, suc, ◌≤◌, ◌++◌, Bool, List, []};
+ghost use Rattle.std.specs.Prelude.{◌≡◌, ℕ, suc, ◌+◌, ◌≤◌, ◌++◌, Bool, List, [], if◌then◌else◌};
+ghost use Rattle.pcc_base.specs.declared.fault.FaultKind.TheVariants.{Syntax, TooDeep};
 ghost use Rattle.c_lex.specs.declared.token.Token.{Token};
 ghost use Rattle.c_syntax.specs.Statements.{ExternalTree};
 ghost use Rattle.c_syntax.specs.Grammar.{Tree};
-ghost use Rattle.c_grammar.specs.Faults.{Begins};
+ghost use Rattle.c_grammar.specs.Faults.{Begins, FaultAt};
 ghost use Rattle.c_fault_places.specs.Chains.{Found, Faults};
+ghost use Rattle.c_fault_places.specs.Laws.{Prompt, RisesTo};
 ghost use Rattle.c_fault_places.specs.StatementReading.{below_of, read_unit};
 
 /// What is read of all tokens, where the height may be at most `suc n`, is their tree, and each tree is read.
@@ -21,4 +23,13 @@ pub fn read_trees()
 pub fn faults_begin_programs()
     ensures { (n : ℕ) (ts : List Token) (deep : Bool) (us : List Token) → read_unit (below_of n) ts ≡ Faults deep us
         → (before : List Token) × (ts ≡ before ++ us) × Begins (suc n) before }
+{}
+
+/// Where readings of units are prompt and rise with three levels more, the fault of tokens stands where reading them
+/// faults.
+pub fn faults_stand_there()
+    ensures { ((m : ℕ) → Prompt (read_unit (below_of m)))
+        → ((m k : ℕ) → m + 3 ≤ k → (ts : List Token) → RisesTo (read_unit (below_of m) ts) (read_unit (below_of k) ts))
+        → (n : ℕ) (ts : List Token) (deep : Bool) (us : List Token) → read_unit (below_of n) ts ≡ Faults deep us
+        → (before : List Token) × (ts ≡ before ++ us) × FaultAt (suc n) (if deep then TooDeep else Syntax) before us }
 {}

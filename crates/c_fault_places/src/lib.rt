@@ -4,4 +4,4 @@
 
 mod laws;
 
-pub use laws::{faults_begin_programs, read_trees};
+pub use laws::{faults_begin_programs, faults_stand_there, read_trees};
