@@ -1,6 +1,6 @@
 -- What was taken before a fault begins a tree: how that is carried from part to part.
-use Rattle.std.proofs.Common.{◌≡◌, ℕ, zero, suc, ◌≤◌, ◌<◌, ◌⊎◌, inl, inr, Bool, true, false, List, [], ◌∷◌, ◌++◌, length}
-use Rattle.std.proofs.Common.{Some, None, ltb, if◌then◌else◌, refl, ap, sym, ◌∙◌, arith, append_assoc}
+use Rattle.std.proofs.Common.{◌≡◌, ℕ, zero, suc, ◌<◌, ◌⊎◌, Bool, true, false, List, [], ◌∷◌, ◌++◌}
+use Rattle.std.proofs.Common.{Some, None, ltb, if◌then◌else◌, refl, ap, sym, ◌∙◌, append_assoc}
 use Rattle.std.proofs.lemmas.Bool.{ltb-true}
 use Rattle.std.proofs.lemmas.List.{append-nil}
 use Rattle.pcc_base.specs.declared.span.Span.{Span}
@@ -9,7 +9,8 @@ use Rattle.c_lex.specs.declared.token.Token.{Token}
 use Rattle.c_lex.specs.declared.token.Punct.{Punct}
 use Rattle.c_syntax.specs.Marks.{mark, word}
 use Rattle.c_grammar.specs.Taking.{take_mark, take_word}
-use Rattle.c_fault_places.specs.Chains.{Step, Done, Fails, Goes, Takes, Reads, Found, Faults, needed, above, then_read, then_step, chain}
+use Rattle.c_fault_places.specs.Chains.{Step, Done, Fails, Goes, Takes, Reads, Found, Faults, needed, above, then_read}
+use Rattle.c_fault_places.specs.Chains.{then_step, chain}
 use Rattle.c_fault_places.specs.Chains.{chain_on}
 use Rattle.c_fault_places.specs.Taking.{read_mark, read_word}
 use Rattle.c_fault_places.proofs.Sound.{Holds, HoldsTaken, HoldsStep, mark_taken, word_taken}
@@ -136,8 +137,8 @@ falls_needed : {A B : Type 0} (P : A → List Token → Type 0) (D : List Token 
 falls_needed P D ts None f h k g = k
 falls_needed P D ts (Some (a, us)) f h k g = g a us h
 
-step_falls_needed : {A B : Type 0} (P : A → List Token → Type 0) (D : List Token → Type 0) (ts : List Token) (o : Takes A)
-    (f : A → List Token → Step B) → HoldsTaken P o → D ts
+step_falls_needed : {A B : Type 0} (P : A → List Token → Type 0) (D : List Token → Type 0) (ts : List Token)
+    (o : Takes A) (f : A → List Token → Step B) → HoldsTaken P o → D ts
     → ((a : A) (us : List Token) → P a us → FallsStep D (f a us)) → FallsStep D (then_step (needed ts o) f)
 step_falls_needed P D ts None f h k g = k
 step_falls_needed P D ts (Some (a, us)) f h k g = g a us h
@@ -148,8 +149,8 @@ pub falls_mark : {B : Type 0} (D : List Token → Type 0) (m : Punct) (ts : List
     → Falls D (then_read (read_mark m ts) f)
 falls_mark D m ts f k g = falls_needed (λ at us. ts ≡ mark m at ∷ us) D ts (take_mark m ts) f (mark_taken m ts) k g
 
-pub falls_word : {B : Type 0} (D : List Token → Type 0) (w : Keyword) (ts : List Token) (f : Span → List Token → Reads B)
-    → D ts → ((at : Span) (us : List Token) → ts ≡ word w at ∷ us → Falls D (f at us))
+pub falls_word : {B : Type 0} (D : List Token → Type 0) (w : Keyword) (ts : List Token)
+    (f : Span → List Token → Reads B) → D ts → ((at : Span) (us : List Token) → ts ≡ word w at ∷ us → Falls D (f at us))
     → Falls D (then_read (read_word w ts) f)
 falls_word D w ts f k g = falls_needed (λ at us. ts ≡ word w at ∷ us) D ts (take_word w ts) f (word_taken w ts) k g
 

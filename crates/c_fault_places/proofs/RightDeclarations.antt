@@ -1,6 +1,6 @@
 -- What was taken of a declaration before a fault begins one, of at most that height.
 use Rattle.std.specs.List.{AllByRecursion}
-use Rattle.std.proofs.Common.{◌≡◌, ℕ, suc, ◌≤◌, ◌<◌, inl, inr, List, [], ◌∷◌, ◌++◌, length, Option, Some, None, refl}
+use Rattle.std.proofs.Common.{◌≡◌, ℕ, suc, ◌≤◌, inl, inr, List, [], ◌∷◌, ◌++◌, length, Option, Some, None, refl}
 use Rattle.std.proofs.Common.{ap, sym, ◌∙◌, arith, append_assoc}
 use Rattle.std.proofs.lemmas.List.{append-nil}
 use Rattle.pcc_base.specs.declared.span.Span.{Span}
@@ -10,39 +10,43 @@ use Rattle.c_lex.specs.declared.token.Punct.TheVariants as marks
 use Rattle.c_syntax.specs.declared.operator.SpecifierWord.TheVariants as specifier
 use Rattle.c_syntax.specs.declared.expression.Identifier.{Identifier}
 use Rattle.c_syntax.specs.declared.expression.Specifier.{Specifier}
-use Rattle.c_syntax.specs.Marks.{mark, ident}
+use Rattle.c_syntax.specs.Marks.{mark}
 use Rattle.c_syntax.specs.Expressions.{Star, Expr, exprs_of}
-use Rattle.c_syntax.specs.ExpressionTokens.{expr_tokens, exprs_tokens, specifiers_tokens, pointer_tokens, exprs_height}
+use Rattle.c_syntax.specs.ExpressionTokens.{exprs_tokens, specifiers_tokens, pointer_tokens, exprs_height}
 use Rattle.c_syntax.specs.ExpressionTokens.{AreValues, Separate, IsSpecifiers}
-use Rattle.c_syntax.specs.Declarations.{ArrayTree, ParameterTree, PartTree, Plain, Array, Function, DeclaratorTree}
-use Rattle.c_syntax.specs.Declarations.{InitialiserTree, Single, Braces, ValueTree, ItemTree, DeclarationTree}
+use Rattle.c_syntax.specs.Declarations.{ParameterTree, Plain, Array, Function, DeclaratorTree}
+use Rattle.c_syntax.specs.Declarations.{Single, Braces}
 use Rattle.c_syntax.specs.DeclarationTokens.{separated, AreApart, greatest, maybe_expr_tokens, maybe_expr_height}
 use Rattle.c_syntax.specs.DeclarationTokens.{array_tokens, maybe_array_tokens, maybe_name_tokens, parameter_tokens}
 use Rattle.c_syntax.specs.DeclarationTokens.{part_tokens, declarator_tokens, maybe_comma_tokens, initialiser_tokens}
 use Rattle.c_syntax.specs.DeclarationTokens.{value_tokens, item_tokens, declaration_tokens, parameter_height}
 use Rattle.c_syntax.specs.DeclarationTokens.{item_height, IsParameter, IsItem}
-use Rattle.c_fault_places.specs.Chains.{Step, Takes, Reads, Found, Faults, then_read, room, chained}
+use Rattle.c_fault_places.specs.Chains.{Takes, Reads}
 use Rattle.c_grammar.specs.Taking.{take_mark, take_specifiers, take_pointer}
 use Rattle.c_fault_places.specs.Reading.{Reader, Readers, Values}
 use Rattle.c_fault_places.specs.DeclarationReading.{Listed, list_at, list_step, read_more, take_name, maybe_from}
 use Rattle.c_fault_places.specs.DeclarationReading.{maybe_before, array_behind, maybe_array_from, read_maybe_array}
 use Rattle.c_fault_places.specs.DeclarationReading.{parameter_with, read_parameter, parameters_from, read_parameters}
 use Rattle.c_fault_places.specs.DeclarationReading.{parameters_behind, part_in_parens, part_from, read_part}
-use Rattle.c_fault_places.specs.DeclarationReading.{declarator_named, read_declarator, brace_close, brace_at, brace_step}
+use Rattle.c_fault_places.specs.DeclarationReading.{declarator_named, read_declarator, brace_close, brace_at}
+use Rattle.c_fault_places.specs.DeclarationReading.{brace_step}
 use Rattle.c_fault_places.specs.DeclarationReading.{Braced, brace_behind, read_values, initialiser_from}
 use Rattle.c_fault_places.specs.DeclarationReading.{read_initialiser, value_from, item_behind, read_item}
 use Rattle.c_fault_places.specs.DeclarationReading.{declaration_behind, declaration_with, read_declaration}
-use Rattle.c_fault_places.proofs.Sound.{Holds, HoldsTaken, HoldsStep, mark_taken, specifiers_taken, pointer_taken}
-use Rattle.c_fault_places.proofs.Sound.{Sound, SoundReader, SoundReaders, SoundValues, first_value}
-use Rattle.c_fault_places.proofs.SoundDeclarations.{SoundList, list_push, list_keeps, One, name_taken, MaybeIs, SoundMaybe}
-use Rattle.c_fault_places.proofs.SoundDeclarations.{sound_more, sound_maybe, conditional_is, IsLowArray, IsLowMaybeArray}
-use Rattle.c_fault_places.proofs.SoundDeclarations.{IsLowParameter, all_low, IsLowPart, SoundParameters, sound_parameter}
-use Rattle.c_fault_places.proofs.SoundDeclarations.{sound_parameters, sound_part, IsLowDeclarator, sound_declarator}
+use Rattle.c_fault_places.proofs.Sound.{Holds, HoldsTaken, mark_taken, specifiers_taken, pointer_taken}
+use Rattle.c_fault_places.proofs.Sound.{Sound, SoundReaders, SoundValues, first_value}
+use Rattle.c_fault_places.proofs.SoundDeclarations.{SoundList, list_push, list_keeps, One, name_taken, MaybeIs}
+use Rattle.c_fault_places.proofs.SoundDeclarations.{SoundMaybe}
+use Rattle.c_fault_places.proofs.SoundDeclarations.{sound_more, sound_maybe, conditional_is, IsLowArray}
+use Rattle.c_fault_places.proofs.SoundDeclarations.{IsLowMaybeArray}
+use Rattle.c_fault_places.proofs.SoundDeclarations.{IsLowParameter, all_low, IsLowPart, SoundParameters}
+use Rattle.c_fault_places.proofs.SoundDeclarations.{sound_parameter}
+use Rattle.c_fault_places.proofs.SoundDeclarations.{sound_parameters, IsLowDeclarator, sound_declarator}
 use Rattle.c_fault_places.proofs.SoundDeclarations.{SoundBraced, only_values, sound_brace, sound_values, without_comma}
 use Rattle.c_fault_places.proofs.SoundDeclarations.{IsLowInitialiser, braces_are, sound_initialiser, IsLowValue}
-use Rattle.c_fault_places.proofs.SoundDeclarations.{sound_value_part, IsLowItem, sound_item_behind, sound_item}
+use Rattle.c_fault_places.proofs.SoundDeclarations.{IsLowItem, sound_item_behind, sound_item}
 use Rattle.c_fault_places.proofs.SoundDeclarations.{IsLowDeclaration, items_are}
-use Rattle.c_fault_places.proofs.Right.{Swap, s_here, s_all, s_cons, s_left, s_app, s_eq, s_to, Begun, here, Falls}
+use Rattle.c_fault_places.proofs.Right.{s_here, s_all, s_cons, s_left, s_app, s_eq, s_to, Begun, here, Falls}
 use Rattle.c_fault_places.proofs.Right.{FallsStep, falls_map, falls_then, step_falls_then, falls_mark, falls_chain}
 use Rattle.c_fault_places.proofs.Right.{falls_room, falls_last}
 use Rattle.c_fault_places.proofs.RightExpressions.{ExprBegun, ExprStarts, RightReader, RightReaders, begun, SomeBegun}

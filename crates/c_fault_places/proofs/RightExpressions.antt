@@ -1,6 +1,7 @@
 -- What was taken of an expression before a fault begins a tree of the rule, of at most that height.
-use Rattle.std.proofs.Common.{◌≡◌, ℕ, zero, suc, ◌+◌, ◌≤◌, ◌<◌, ◌⊎◌, inl, inr, pos, Bool, true, false, List, [], ◌∷◌, ◌++◌, length, Option}
-use Rattle.std.proofs.Common.{Some, None, ltb, leb, if◌then◌else◌, refl, ap, sym, ◌∙◌, subst, arith, append_assoc}
+use Rattle.std.proofs.Common.{◌≡◌, ℕ, zero, suc, ◌+◌, ◌≤◌, ◌<◌, inl, inr, pos, Bool, true, false, List, [], ◌∷◌, ◌++◌}
+use Rattle.std.proofs.Common.{length}
+use Rattle.std.proofs.Common.{Some, None, ltb, leb, if◌then◌else◌, refl, ap, sym, ◌∙◌, subst, arith}
 use Rattle.std.proofs.lemmas.Bool.{ltb-true, leb-true}
 use Rattle.std.proofs.lemmas.List.{append-nil}
 use Rattle.pcc_base.specs.declared.span.Span.{Span}
@@ -14,7 +15,7 @@ use Rattle.c_syntax.specs.declared.operator.StepOp.{StepOp}
 use Rattle.c_syntax.specs.declared.operator.AssignOp.{AssignOp}
 use Rattle.c_syntax.specs.declared.expression.Identifier.{Identifier as Ident}
 use Rattle.c_syntax.specs.declared.expression.Specifier.{Specifier}
-use Rattle.c_syntax.specs.Marks.{ident, mark, word, binary_mark, unary_mark, step_mark, assign_mark}
+use Rattle.c_syntax.specs.Marks.{ident, mark, binary_mark, unary_mark, step_mark, assign_mark}
 use Rattle.c_syntax.specs.Expressions.{Expr, exprs_of, Number, Parenthesised, Call, Index, Prefix, Unary, Cast, Binary}
 use Rattle.c_syntax.specs.Expressions.{Conditional, Assignment}
 use Rattle.c_syntax.specs.ExpressionTokens.{expr_tokens, exprs_tokens, specifiers_tokens, pointer_tokens}
@@ -22,21 +23,23 @@ use Rattle.c_syntax.specs.ExpressionTokens.{expr_height, exprs_height, looseness
 use Rattle.c_syntax.specs.ExpressionTokens.{IsSpecifiers, binary_level}
 use Rattle.c_grammar.specs.Taking.{is_mark, take_mark, take_unary, take_step, take_assign, take_binary}
 use Rattle.c_grammar.specs.Taking.{take_specifiers, take_pointer}
-use Rattle.c_fault_places.specs.Chains.{Step, Takes, Reads, Found, Faults, above, then_read, then_step, chained}
-use Rattle.c_fault_places.specs.Reading.{Reader, Readers, Values, readers, no_reader, readers_over, value_at, value_step}
+use Rattle.c_fault_places.specs.Chains.{Takes, Reads, Found, Faults, chained}
+use Rattle.c_fault_places.specs.Reading.{Reader, Readers, Values, readers, no_reader, readers_over, value_at}
+use Rattle.c_fault_places.specs.Reading.{value_step}
 use Rattle.c_fault_places.specs.Reading.{arguments_from, read_arguments, call_from, parenthesised_from, primary_at}
 use Rattle.c_fault_places.specs.Reading.{read_primary, postfix_from, suffix_from, suffix_step, read_postfix, unary_from}
-use Rattle.c_fault_places.specs.Reading.{prefix_from, read_unary, cast_behind, cast_inside, cast_with, cast_from, read_cast}
+use Rattle.c_fault_places.specs.Reading.{prefix_from, read_unary, cast_behind, cast_inside, cast_with, cast_from}
+use Rattle.c_fault_places.specs.Reading.{read_cast}
 use Rattle.c_fault_places.specs.Reading.{infix_from, infix_step, read_infix, read_binary, conditional_from}
 use Rattle.c_fault_places.specs.Reading.{read_conditional, assignment_from, read_assignment, read_expression}
 use Rattle.c_fault_places.proofs.Reading.{readers-none, readers-suc}
-use Rattle.c_fault_places.proofs.Sound.{Holds, HoldsTaken, HoldsStep, mark_is, mark_taken, unary_taken, step_taken}
+use Rattle.c_fault_places.proofs.Sound.{HoldsTaken, mark_is, mark_taken, unary_taken, step_taken}
 use Rattle.c_fault_places.proofs.Sound.{assign_taken, binary_taken, specifiers_taken, pointer_taken, Sound, SoundReader}
 use Rattle.c_fault_places.proofs.Sound.{SoundReaders, SoundValues, SoundArguments, looser, values_push, sound_value}
 use Rattle.c_fault_places.proofs.Sound.{first_value, sound_arguments, sound_primary, sound_suffix, sound_binary}
 use Rattle.c_fault_places.proofs.Sound.{sound_conditional, sound_assignment, sound, sound_turn}
 use Rattle.c_fault_places.proofs.Complete.{height_above}
-use Rattle.c_fault_places.proofs.Right.{Swap, s_here, s_all, s_cons, s_left, s_app, s_eq, s_to, Begun, Starts, here}
+use Rattle.c_fault_places.proofs.Right.{s_here, s_all, s_cons, s_left, s_app, s_eq, s_to, Begun, Starts, here}
 use Rattle.c_fault_places.proofs.Right.{Falls, FallsStep, falls_map, falls_then, step_falls_then, falls_above}
 use Rattle.c_fault_places.proofs.Right.{step_falls_above, falls_if, falls_mark, step_falls_mark, falls_chain}
 
@@ -203,12 +206,16 @@ right_parens n b sb r o ts =
     (λ c vs k. tt))
   where
     inside : (us : List Token) → ExprBegun 16 n ts us → ExprBegun 0 (suc n) (mark marks.LeftParen o ∷ ts) us
-    inside us (e, swap, (is, loose, low)) =
-        (Parenthesised o e here, s_cons (s_app (mark marks.RightParen here ∷ []) swap), (is, omega arith, omega (arith, low)))
+    inside us (e, swap, (is, loose, low)) = (
+      Parenthesised o e here,
+      s_cons (s_app (mark marks.RightParen here ∷ []) swap),
+      (is, omega arith, omega (arith, low)),
+    )
 
 right_at : (n : ℕ) (b : Readers) → SoundReaders n b → RightReaders n b → (kind : TokenKind) (at : Span)
     (ts : List Token)
-    → (let x : Token = record { kind = kind; at = at } in Falls (ExprBegun 0 (suc n) (x ∷ ts)) (primary_at b kind at ts))
+    → (let x : Token = record { kind = kind; at = at } in
+    Falls (ExprBegun 0 (suc n) (x ∷ ts)) (primary_at b kind at ts))
 right_at n b sb r (kinds.Ident name) at ts = right_call n b sb r (record { name = name; at = at }) ts
 right_at n b sb r (kinds.Number value true) at ts = none 0 n _ _ refl
 right_at n b sb r (kinds.Number value false) at ts = tt

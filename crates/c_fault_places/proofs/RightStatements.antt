@@ -1,7 +1,8 @@
 -- What was taken of a statement or of a unit before a fault begins one, of at most that height.
 use Rattle.std.specs.List.{AllByRecursion}
-use Rattle.std.proofs.Common.{◌≡◌, ℕ, zero, suc, ◌≤◌, ◌<◌, max, inl, inr, Bool, true, false, List, [], ◌∷◌, ◌++◌, length, Option, Some}
-use Rattle.std.proofs.Common.{None, if◌then◌else◌, refl, ap, sym, ◌∙◌, subst, arith, append_assoc}
+use Rattle.std.proofs.Common.{◌≡◌, ℕ, zero, suc, ◌≤◌, max, inl, inr, Bool, true, false, List, [], ◌∷◌, ◌++◌, length}
+use Rattle.std.proofs.Common.{Option, Some}
+use Rattle.std.proofs.Common.{None, if◌then◌else◌, refl, ap, sym, ◌∙◌, subst, arith}
 use Rattle.pcc_base.specs.declared.span.Span.{Span}
 use Rattle.pcc_base.specs.declared.keyword.Keyword.TheVariants as words
 use Rattle.pcc_base.proofs.Lists.{all-push}
@@ -12,7 +13,7 @@ use Rattle.c_syntax.specs.declared.expression.Specifier.{Specifier}
 use Rattle.c_syntax.specs.Marks.{mark, word}
 use Rattle.c_syntax.specs.Expressions.{Expr}
 use Rattle.c_syntax.specs.ExpressionTokens.{expr_tokens, expr_height, IsExpr, IsSpecifiers, specifiers_tokens}
-use Rattle.c_syntax.specs.Declarations.{PartTree, DeclaratorTree, DeclarationTree}
+use Rattle.c_syntax.specs.Declarations.{DeclaratorTree}
 use Rattle.c_syntax.specs.DeclarationTokens.{maybe_expr_tokens, maybe_expr_height, declaration_tokens}
 use Rattle.c_syntax.specs.DeclarationTokens.{declarator_tokens, greatest}
 use Rattle.c_syntax.specs.Statements.{LabelTree, Case, Default, Stmt, Declared, Labelled, Block, Simple, If, IfElse}
@@ -21,39 +22,43 @@ use Rattle.c_syntax.specs.Statements.{ExternalTree, FunctionTree, DeclaredTree}
 use Rattle.c_syntax.specs.StatementTokens.{labels_tokens, in_parens, stmt_tokens, stmts_tokens, label_height}
 use Rattle.c_syntax.specs.StatementTokens.{stmt_height, stmts_height, ends_open, IsMaybeExpr, IsLabel}
 use Rattle.c_syntax.specs.StatementTokens.{IsPlain, IsBlockItem, IsCase, IsStmt}
-use Rattle.c_syntax.specs.Grammar.{external_tokens, unit_tokens, external_height, IsExternal, Tree}
+use Rattle.c_syntax.specs.Grammar.{external_tokens, unit_tokens, external_height, IsExternal}
 use Rattle.c_grammar.specs.Faults.{Begins}
-use Rattle.c_fault_places.specs.Chains.{Step, Takes, Reads, Found, Faults, then_read, room}
+use Rattle.c_fault_places.specs.Chains.{Takes, Reads, Found, Faults, then_read}
 use Rattle.c_grammar.specs.Taking.{is_mark, take_mark, take_word, take_specifiers}
-use Rattle.c_fault_places.specs.Taking.{read_mark, read_word}
+use Rattle.c_fault_places.specs.Taking.{read_mark}
 use Rattle.c_fault_places.specs.Reading.{Reader, Readers, readers}
 use Rattle.c_fault_places.proofs.Reading.{readers-none}
 use Rattle.c_fault_places.specs.DeclarationReading.{maybe_before, read_declarator, declaration_behind, read_declaration}
-use Rattle.c_fault_places.specs.StatementReading.{StmtReader, Below, no_item, nothing_below, below_of, below_over, Condition, read_condition}
+use Rattle.c_fault_places.specs.StatementReading.{StmtReader, Below, no_item, nothing_below, below_of, below_over}
+use Rattle.c_fault_places.specs.StatementReading.{Condition, read_condition}
 use Rattle.c_fault_places.specs.StatementReading.{until_at, until_step, read_until, default_at, label_at, label_step}
 use Rattle.c_fault_places.specs.StatementReading.{read_labels, read_labelled, item_with, read_block_item, block_behind}
 use Rattle.c_fault_places.specs.StatementReading.{else_from, if_behind, while_behind, do_behind, ForRest, read_for_rest}
 use Rattle.c_fault_places.specs.StatementReading.{for_with, for_behind, switch_behind, or_return, or_continue, or_break}
 use Rattle.c_fault_places.specs.StatementReading.{or_switch, or_for, or_do, or_while, or_if, or_block, read_statement}
-use Rattle.c_fault_places.specs.StatementReading.{has_parameters, external_from, external_with, read_external, unit_step}
+use Rattle.c_fault_places.specs.StatementReading.{has_parameters, external_from, external_with, read_external}
+use Rattle.c_fault_places.specs.StatementReading.{unit_step}
 use Rattle.c_fault_places.specs.StatementReading.{read_unit}
 use Rattle.c_fault_places.proofs.StatementReading.{below_of-suc, below_of-none}
-use Rattle.c_fault_places.proofs.Sound.{Holds, HoldsTaken, HoldsStep, mark_taken, word_taken, mark_read, specifiers_taken}
+use Rattle.c_fault_places.proofs.Sound.{HoldsTaken, mark_taken, word_taken, mark_read, specifiers_taken}
 use Rattle.c_fault_places.proofs.Sound.{Sound, SoundReader, SoundReaders, sound}
 use Rattle.c_fault_places.proofs.SoundDeclarations.{One, SoundMaybe, sound_maybe, IsLowDeclarator, sound_declarator}
 use Rattle.c_fault_places.proofs.SoundDeclarations.{IsLowDeclaration}
-use Rattle.c_fault_places.proofs.SoundStatements.{SoundStmt, SoundStatements, SoundBelow, SoundCondition, sound_condition}
+use Rattle.c_fault_places.proofs.SoundStatements.{SoundStmt, SoundStatements, SoundBelow, SoundCondition}
+use Rattle.c_fault_places.proofs.SoundStatements.{sound_condition}
 use Rattle.c_fault_places.proofs.SoundStatements.{behind_parens, maybe_is, AllStmts, SoundRow, row_tokens, row_height}
 use Rattle.c_fault_places.proofs.SoundStatements.{row_all, row_keeps, sound_row, items_are, cases_are, not_open}
-use Rattle.c_fault_places.proofs.SoundStatements.{rest_tokens, SoundRest, sound_rest, sound_statement, plain_item}
+use Rattle.c_fault_places.proofs.SoundStatements.{rest_tokens, plain_item}
 use Rattle.c_fault_places.proofs.SoundStatements.{SoundLabels, labels_push, labels_low, label_keeps, sound_labels}
 use Rattle.c_fault_places.proofs.SoundStatements.{sound_below, IsLowExternal, has_part, block_alone, sound_external}
 use Rattle.c_fault_places.proofs.SoundStatements.{SoundUnit, unit_push, unit_low, sound_unit_step}
-use Rattle.c_fault_places.proofs.Right.{Swap, s_here, s_all, s_cons, s_left, s_app, s_eq, s_to, Begun, Starts, here, Falls}
+use Rattle.c_fault_places.proofs.Right.{Swap, s_here, s_all, s_cons, s_left, s_app, s_eq, s_to, Begun, Starts, here}
+use Rattle.c_fault_places.proofs.Right.{Falls}
 use Rattle.c_fault_places.proofs.Right.{FallsStep, falls_map, falls_then, step_falls_then, falls_mark, falls_word}
 use Rattle.c_fault_places.proofs.Right.{step_falls_mark, falls_chain, falls_room, falls_last, mark_falls}
 use Rattle.c_fault_places.proofs.RightExpressions.{ExprBegun, ExprStarts, RightReader, RightReaders, one, begun, right}
-use Rattle.c_fault_places.proofs.RightDeclarations.{MaybeLow, MaybeBegun, right_maybe, DeclaratorBegun, right_declarator}
+use Rattle.c_fault_places.proofs.RightDeclarations.{MaybeBegun, right_maybe, DeclaratorBegun, right_declarator}
 use Rattle.c_fault_places.proofs.RightDeclarations.{DeclarationBegun, declared_begun, no_declaration}
 use Rattle.c_fault_places.proofs.RightDeclarations.{right_declaration_behind, right_declaration}
 
@@ -700,7 +705,8 @@ right_external n b sb r ts = under (take_specifiers ts).0 (take_specifiers ts).1
         → stmt_tokens s ≡ before ++ after → ExternalBegun (suc n) ts zs
     in_block ss us is h d vs g e p f zs s low [] after same are = no_block ss us is h d vs g zs same
     in_block ss us is h d vs g e p f zs s (is_stmt, plain, low) (x ∷ xs) after same are =
-        (let first : take_mark marks.LeftBrace (x ∷ (xs ++ zs)) ≡ Some p = ap (take_mark marks.LeftBrace) (sym same) ∙ f in
+        (let first : take_mark marks.LeftBrace (x ∷ (xs ++ zs)) ≡ Some p =
+        ap (take_mark marks.LeftBrace) (sym same) ∙ f in
         let again : take_mark marks.LeftBrace (stmt_tokens s ++ []) ≡ Some (x.at, (xs ++ after) ++ []) =
         ap (λ ys. take_mark marks.LeftBrace (ys ++ [])) are
         ∙ first_mark marks.LeftBrace x (xs ++ zs) ((xs ++ after) ++ []) p first in (

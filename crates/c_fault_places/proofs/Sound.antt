@@ -22,7 +22,7 @@ use Rattle.c_syntax.specs.declared.operator.SpecifierWord.{SpecifierWord}
 use Rattle.c_syntax.specs.declared.expression.Identifier.{Identifier as Ident}
 use Rattle.c_syntax.specs.declared.expression.Specifier.{Specifier}
 use Rattle.c_syntax.specs.Marks.{ident, mark, word, binary_mark, unary_mark, step_mark, assign_mark, specifier_word}
-use Rattle.c_syntax.specs.Expressions.{Expr, exprs_of, Postfix}
+use Rattle.c_syntax.specs.Expressions.{Expr, exprs_of}
 use Rattle.c_syntax.specs.ExpressionTokens.{expr_tokens, exprs_tokens, more_tokens, text_tokens, specifiers_tokens}
 use Rattle.c_syntax.specs.ExpressionTokens.{consts_tokens, pointer_tokens, expr_height, exprs_height, looseness}
 use Rattle.c_syntax.specs.ExpressionTokens.{IsExpr, AreValues, Separate, Follow, IsSpecifiers, binary_level}

@@ -26,7 +26,7 @@ use Rattle.c_syntax.specs.DeclarationTokens.{maybe_expr_height, maybe_array_heig
 use Rattle.c_syntax.specs.DeclarationTokens.{initialiser_height, value_height, item_height, declaration_height}
 use Rattle.c_syntax.specs.DeclarationTokens.{IsMaybeConditional, IsMaybeArray, IsParameter, IsPart, IsInitialiser}
 use Rattle.c_syntax.specs.DeclarationTokens.{IsMaybeValue, IsItem, AreItems, IsDeclaration}
-use Rattle.c_fault_places.specs.Chains.{Step, Takes, Reads, Found, Faults, chained}
+use Rattle.c_fault_places.specs.Chains.{Takes, Reads, Found, Faults}
 use Rattle.c_grammar.specs.Taking.{take_mark, take_specifiers, take_pointer}
 use Rattle.c_fault_places.specs.Taking.{read_mark}
 use Rattle.c_fault_places.specs.Reading.{Reader, Readers, Values}

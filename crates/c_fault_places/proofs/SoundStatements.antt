@@ -23,7 +23,7 @@ use Rattle.c_syntax.specs.StatementTokens.{label_height, stmt_height, stmts_heig
 use Rattle.c_syntax.specs.StatementTokens.{IsPlain, IsBlockItem, IsCase, IsStmt, AreItems, AreCases}
 use Rattle.c_syntax.specs.Grammar.{external_tokens, unit_tokens, external_height, HasParameters, IsBlock, IsExternal}
 use Rattle.c_syntax.specs.Grammar.{Tree}
-use Rattle.c_fault_places.specs.Chains.{Step, Takes, Reads, Found, Faults, then_read, room}
+use Rattle.c_fault_places.specs.Chains.{Takes, Reads, Found, Faults, then_read}
 use Rattle.c_grammar.specs.Taking.{take_mark, take_word, take_specifiers}
 use Rattle.c_fault_places.specs.Taking.{read_mark, read_word}
 use Rattle.c_fault_places.specs.Reading.{Reader, Readers, readers}
