@@ -13,3 +13,8 @@ pub mod RightExpressions
 pub mod RightDeclarations
 pub mod RightStatements
 pub mod Exact
+pub mod Prompt
+pub mod PromptTokens
+pub mod PromptExpressions
+pub mod PromptDeclarations
+pub mod PromptStatements
