@@ -8,3 +8,5 @@ pub mod StatementComplete
 pub mod Sound
 pub mod SoundDeclarations
 pub mod SoundStatements
+pub mod Rising
+pub mod RisingExpressions

@@ -518,7 +518,7 @@ sound_at n b sb (kinds.Mark m) at ts =
     subst P (sym (mark_is marks.LeftParen (kinds.Mark m) e)) (sound_parens n b sb at ts)))
 sound_at n b sb (kinds.Word w) at ts = tt
 
-sound_primary : (n : ℕ) (b : Readers) → SoundReaders n b → SoundReader 0 (suc n) (read_primary b)
+pub sound_primary : (n : ℕ) (b : Readers) → SoundReaders n b → SoundReader 0 (suc n) (read_primary b)
 sound_primary n b sb [] = tt
 sound_primary n b sb (t ∷ ts) = sound_at n b sb t.kind t.at ts
 
@@ -678,13 +678,13 @@ sound_infix k n c operand right sum so sr ts =
               low = omega (arith, g.low, e);
             })
 
-sound_binary : (n : ℕ) (b : Readers) → SoundReaders n b → (k : ℕ) → k ≤ 10
+pub sound_binary : (n : ℕ) (b : Readers) → SoundReaders n b → (k : ℕ) → k ≤ 10
     → SoundReader (k + 3) (suc n) (read_binary (suc n) b k)
 sound_binary n b sb zero h = sound_cast n b sb
 sound_binary n b sb (suc k) h = sound_infix (suc k) n (k + 3) (read_binary (suc n) b k) (b.binary k) (omega arith)
     (sound_binary n b sb k (omega arith)) (sb.binary k (omega arith))
 
-sound_conditional : (n : ℕ) (b : Readers) → SoundReaders n b → SoundReader 14 (suc n) (read_conditional (suc n) b)
+pub sound_conditional : (n : ℕ) (b : Readers) → SoundReaders n b → SoundReader 14 (suc n) (read_conditional (suc n) b)
 sound_conditional n b sb ts =
     holds_then (Sound 13 (suc n) ts) (Sound 14 (suc n) ts) (read_binary (suc n) b 10 ts) _
     (sound_binary n b sb 10 (omega arith) ts)
@@ -712,7 +712,7 @@ sound_conditional n b sb ts =
           low = omega (arith, g.low, j.low, e);
         }))))
 
-sound_assignment : (n : ℕ) (b : Readers) → SoundReaders n b → SoundReader 15 (suc n) (read_assignment (suc n) b)
+pub sound_assignment : (n : ℕ) (b : Readers) → SoundReaders n b → SoundReader 15 (suc n) (read_assignment (suc n) b)
 sound_assignment n b sb ts =
     holds_then (Sound 14 (suc n) ts) (Sound 15 (suc n) ts) (read_conditional (suc n) b ts) _
     (sound_conditional n b sb ts) (λ l us s. under l us s (take_assign us) (assign_taken us))

@@ -4,4 +4,4 @@
 
 mod laws;
 
-pub use laws::read_trees;
+pub use laws::{faults_of_height_move_on, read_trees};
