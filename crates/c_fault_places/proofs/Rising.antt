@@ -50,7 +50,7 @@ pub record TurnRises {A : Type 0} (W : Type 0) (ts : List Token) (s z : Step A) 
 
 -- ---- one reading behind another
 
-past_then : {A B : Type 0} (xs : List Token) (q : Reads A) (g : A → List Token → Reads B) → Past xs q
+pub past_then : {A B : Type 0} (xs : List Token) (q : Reads A) (g : A → List Token → Reads B) → Past xs q
     → ((a : A) (us : List Token) → length us < length xs → Past xs (g a us)) → Past xs (then_read q g)
 past_then xs (Found a us) g p h = h a us p
 past_then xs (Faults deep us) g p h = p

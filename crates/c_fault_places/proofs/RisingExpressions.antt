@@ -16,7 +16,8 @@ use Rattle.c_syntax.specs.declared.operator.AssignOp.{AssignOp}
 use Rattle.c_syntax.specs.declared.expression.Identifier.{Identifier as Ident}
 use Rattle.c_syntax.specs.declared.expression.Specifier.{Specifier}
 use Rattle.c_syntax.specs.Marks.{mark, word, binary_mark, unary_mark, step_mark, assign_mark}
-use Rattle.c_syntax.specs.Expressions.{Expr, Star}
+use Rattle.c_syntax.specs.declared.expression.TextPiece.{TextPiece}
+use Rattle.c_syntax.specs.Expressions.{Expr, Star, Number, Parenthesised}
 use Rattle.c_syntax.specs.ExpressionTokens.{expr_tokens, text_tokens, specifiers_tokens, pointer_tokens, expr_height}
 use Rattle.c_syntax.specs.ExpressionTokens.{looseness, binary_level}
 use Rattle.c_grammar.specs.Heads.{begins}
@@ -27,7 +28,7 @@ use Rattle.c_fault_places.specs.Chains.{chain, chained}
 use Rattle.c_fault_places.specs.Taking.{read_mark}
 use Rattle.c_fault_places.specs.Laws.{Past, RisesTo}
 use Rattle.c_fault_places.specs.Reading.{Reader, Readers, Values, readers, no_reader, no_readers, readers_over, value_at, value_step}
-use Rattle.c_fault_places.specs.Reading.{arguments_from, read_arguments, call_from, parenthesised_from, primary_at}
+use Rattle.c_fault_places.specs.Reading.{arguments_from, read_arguments, call_from, parenthesised_from, primary_at, text_from}
 use Rattle.c_fault_places.specs.Reading.{read_primary, postfix_from, suffix_from, suffix_step, read_postfix, unary_from}
 use Rattle.c_fault_places.specs.Reading.{prefix_from, read_unary, cast_behind, cast_inside, cast_with, cast_from, read_cast}
 use Rattle.c_fault_places.specs.Reading.{infix_from, infix_step, read_infix, read_binary, conditional_from}
@@ -38,7 +39,7 @@ use Rattle.c_fault_places.proofs.Sound.{unary_taken, step_taken, assign_taken, b
 use Rattle.c_fault_places.proofs.Sound.{pointer_taken, mark_read}
 use Rattle.c_fault_places.proofs.Rising.{Rises, StepRises, TurnRises, then_low, then_rises, step_rises, found, faults, goes}
 use Rattle.c_fault_places.proofs.Rising.{turn_done, longer, behind, behind_row, turn, turn_behind, mark_rises, past_above}
-use Rattle.c_fault_places.proofs.Rising.{above_rises, chain_low, chain_rises}
+use Rattle.c_fault_places.proofs.Rising.{above_rises, chain_low, chain_rises, past_then}
 
 -- readers of what is at most n high, and those of what is at most k high, where each rises
 pub record Rise (W : Type 0) (n k : ℕ) (b c : Readers) : Type 0 where
@@ -120,6 +121,10 @@ if_rises : {A W : Type 0} {o q : Reads A} (ts us : List Token) (x : Bool) → le
     → Rises W ts (if x then o else Faults false ts) (if x then q else Faults false ts)
 if_rises ts us true e r = longer ts (omega (arith, e)) r
 if_rises ts us false e r = faults ts
+
+texts_rises : (first : TextPiece) (ts : List Token)
+    → Rises ⊥ ts (text_from first (take_texts ts)) (text_from first (take_texts ts))
+texts_rises first ts = behind_row ts (text_tokens (take_texts ts).0) (texts_taken ts) (found _ (take_texts ts).1)
 
 at_rises : {W : Type 0} {n k : ℕ} {b c : Readers} → Rise W n k b c → (kind : TokenKind) (at : Span) (ts : List Token)
     → (let x : Token = record { kind = kind; at = at } in
@@ -245,34 +250,41 @@ cast_rises {W} {n} {k} {b} {c} r ts = under (take_mark marks.LeftParen ts) (mark
 
 -- ---- operators between operands
 
+infix_turn : {W : Type 0} (n k level : ℕ) (right right_more : Reader) → (W → n < k)
+    → ((ts : List Token) → Rises W ts (right ts) (right_more ts)) → (l : Expr) (us : List Token)
+    → (W → expr_height l ≤ n) → TurnRises W us (infix_step level n right l us) (infix_step level k right_more l us)
+infix_turn {W} n k level right right_more less r l us low = under (take_binary level us) (binary_taken level us)
+  where
+    under : (o : Takes (BinaryOp × Span)) → HoldsTaken
+        (λ a vs. (us ≡ mark (binary_mark a.0) a.1 ∷ vs) × (binary_level a.0 ≡ level)) o
+        → TurnRises W us (infix_from n right l o) (infix_from k right_more l o)
+    under None h = turn_done us
+    under (Some (op, vs)) h =
+        (let t : Token = mark (binary_mark op.0) op.1 in
+        let f : length us ≡ suc (length vs) = ap length h.0 in
+        turn us (omega (arith, f))
+        (step_rises (above_rises (expr_height l) n k t vs low less (r vs)) (λ e ws. goes _ ws)))
+
+low_infix : (n level c : ℕ) (right : Reader) → SoundReader c n right → (l : Expr) (us : List Token)
+    → HoldsStep (Low (suc n)) (infix_step level (suc n) right l us)
+low_infix n level c right s l us = under (take_binary level us)
+  where
+    under : (o : Takes (BinaryOp × Span)) → HoldsStep (Low (suc n)) (infix_from (suc n) right l o)
+    under None = tt
+    under (Some (op, vs)) =
+        step_above (Low n) (Low (suc n)) (expr_height l) (suc n) _ vs (right vs) _ (low c n vs (right vs) (s vs))
+        (λ e ws h g. omega (arith, g, h))
+
 infix_rises : {W : Type 0} (n k level c : ℕ) (operand operand_more right right_more : Reader) → (W → n < k)
     → (W → SoundReader c n right) → ((ts : List Token) → Rises W ts (right ts) (right_more ts)) → (ts : List Token)
     → (W → Holds (Low (suc n)) (operand ts)) → Rises W ts (operand ts) (operand_more ts)
     → Rises W ts (read_infix level (suc n) operand right ts) (read_infix level (suc k) operand_more right_more ts)
-infix_rises {W} n k level c operand operand_more right right_more less sr r ts lo ro =
+infix_rises n k level c operand operand_more right right_more less sr r ts lo ro =
     then_low (Low (suc n)) lo ro (λ e us.
     chain_low (Low (suc n)) (infix_step level (suc n) right) (infix_step level (suc k) right_more)
-    (λ w l vs i. keeps (sr w.0) l vs (take_binary level vs))
-    (λ l vs. turns l vs (take_binary level vs) (binary_taken level vs)) (length us) e us (λ w. w.1))
-  where
-    keeps : SoundReader c n right → (l : Expr) (us : List Token) (o : Takes (BinaryOp × Span))
-        → HoldsStep (Low (suc n)) (infix_from (suc n) right l o)
-    keeps s l us None = tt
-    keeps s l us (Some (op, vs)) =
-        step_above (Low n) (Low (suc n)) (expr_height l) (suc n) _ vs (right vs) _ (low c n vs (right vs) (s vs))
-        (λ e ws h g. omega (arith, g, h))
-
-    turns : {V : Type 0} (l : Expr) (us : List Token) (o : Takes (BinaryOp × Span)) → HoldsTaken
-        (λ a vs. (us ≡ mark (binary_mark a.0) a.1 ∷ vs) × (binary_level a.0 ≡ level)) o
-        → TurnRises ((W × V) × (expr_height l ≤ suc n)) us (infix_from (suc n) right l o)
-        (infix_from (suc k) right_more l o)
-    turns l us None h = turn_done us
-    turns l us (Some (op, vs)) h =
-        (let t : Token = mark (binary_mark op.0) op.1 in
-        let f : length us ≡ suc (length vs) = ap length h.0 in
-        turn us (omega (arith, f)) (step_rises
-        (above_rises (expr_height l) (suc n) (suc k) t vs (λ w. w.1) (λ w. omega (arith, less w.0.0))
-        (rises_weaker (λ w. w.0.0) (r vs))) (λ e ws. goes _ ws)))
+    (λ w l vs i. low_infix n level c right (sr w.0) l vs)
+    (λ l vs. infix_turn (suc n) (suc k) level right right_more (λ w. omega (arith, less w.0.0))
+    (λ ws. rises_weaker (λ w. w.0.0) (r ws)) l vs (λ w. w.1)) (length us) e us (λ w. w.1))
 
 binary_rises : {W : Type 0} {n k : ℕ} {b c : Readers} → Rise W n k b c → (j : ℕ) → j ≤ 10 → (ts : List Token)
     → Rises W ts (read_binary (suc n) b j ts) (read_binary (suc k) c j ts)
@@ -286,44 +298,50 @@ binary_rises {W} {n} {k} {b} {c} r (suc j) h ts =
 
 -- ---- conditional, assignment and expression
 
+conditional_behind : {W : Type 0} {n k : ℕ} {b c : Readers} → Rise W n k b c → (e : Expr) (us : List Token)
+    → (W → expr_height e ≤ suc n) → Rises W us (conditional_from (suc n) b e (take_mark marks.Question us) us)
+    (conditional_from (suc k) c e (take_mark marks.Question us) us)
+conditional_behind {W} {n} {k} {b} {c} r e us low = under (take_mark marks.Question us) (mark_taken marks.Question us)
+  where
+    under : (o : Takes Span) → HoldsTaken (λ at vs. us ≡ mark marks.Question at ∷ vs) o
+        → Rises W us (conditional_from (suc n) b e o us) (conditional_from (suc k) c e o us)
+    under None h = found e us
+    under (Some (q, vs)) h =
+        (let t : Token = mark marks.Question q in
+        let f : length us ≡ suc (length vs) = ap length h in
+        longer us (omega (arith, f)) (then_rises
+        (above_rises (expr_height e) (suc n) (suc k) t vs low (λ w. omega (arith, r.less w)) (r.expression vs))
+        (λ x ws. then_rises (mark_rises marks.Colon ws) (λ y xs.
+        then_rises (r.conditional xs) (λ z ys. found _ ys)))))
+
 conditional_rises : {W : Type 0} {n k : ℕ} {b c : Readers} → Rise W n k b c → (ts : List Token)
     → Rises W ts (read_conditional (suc n) b ts) (read_conditional (suc k) c ts)
 conditional_rises {W} {n} {k} {b} {c} r ts =
     then_low (Low (suc n))
     (λ w. low 13 (suc n) ts (read_binary (suc n) b 10 ts) (sound_binary n b (r.sound w) 10 (omega arith) ts))
-    (binary_rises r 10 (omega arith) ts)
-    (λ e us. under e us (take_mark marks.Question us) (mark_taken marks.Question us))
+    (binary_rises r 10 (omega arith) ts) (λ e us. conditional_behind (weaker (λ w. w.0) r) e us (λ w. w.1))
+
+assignment_behind : {W : Type 0} {n k : ℕ} {b c : Readers} → Rise W n k b c → (e : Expr) (us : List Token)
+    → (W → expr_height e ≤ suc n) → Rises W us (assignment_from (suc n) b e (take_assign us) us)
+    (assignment_from (suc k) c e (take_assign us) us)
+assignment_behind {W} {n} {k} {b} {c} r e us low = under (take_assign us) (assign_taken us)
   where
-    under : (e : Expr) (us : List Token) (o : Takes Span) → HoldsTaken (λ at vs. us ≡ mark marks.Question at ∷ vs) o
-        → Rises (W × (expr_height e ≤ suc n)) us (conditional_from (suc n) b e o us) (conditional_from (suc k) c e o us)
-    under e us None h = found e us
-    under e us (Some (q, vs)) h =
-        (let t : Token = mark marks.Question q in
+    under : (o : Takes (AssignOp × Span)) → HoldsTaken (λ a vs. us ≡ mark (assign_mark a.0) a.1 ∷ vs) o
+        → Rises W us (assignment_from (suc n) b e o us) (assignment_from (suc k) c e o us)
+    under None h = found e us
+    under (Some (op, vs)) h =
+        (let t : Token = mark (assign_mark op.0) op.1 in
         let f : length us ≡ suc (length vs) = ap length h in
-        let s = weaker {V = W × (expr_height e ≤ suc n)} (λ w. w.0) r in
-        longer us (omega (arith, f)) (then_rises
-        (above_rises (expr_height e) (suc n) (suc k) t vs (λ w. w.1) (λ w. omega (arith, s.less w)) (s.expression vs))
-        (λ x ws. then_rises (mark_rises marks.Colon ws) (λ y xs.
-        then_rises (s.conditional xs) (λ z ys. found _ ys)))))
+        longer us (omega (arith, f)) (if_rises (t ∷ vs) (t ∷ vs) (leb (looseness e) 2) refl (then_rises
+        (above_rises (expr_height e) (suc n) (suc k) t vs low (λ w. omega (arith, r.less w)) (r.assignment vs))
+        (λ x ws. found _ ws))))
 
 assignment_rises : {W : Type 0} {n k : ℕ} {b c : Readers} → Rise W n k b c → (ts : List Token)
     → Rises W ts (read_assignment (suc n) b ts) (read_assignment (suc k) c ts)
 assignment_rises {W} {n} {k} {b} {c} r ts =
     then_low (Low (suc n))
     (λ w. low 14 (suc n) ts (read_conditional (suc n) b ts) (sound_conditional n b (r.sound w) ts))
-    (conditional_rises r ts) (λ e us. under e us (take_assign us) (assign_taken us))
-  where
-    under : (e : Expr) (us : List Token) (o : Takes (AssignOp × Span))
-        → HoldsTaken (λ a vs. us ≡ mark (assign_mark a.0) a.1 ∷ vs) o
-        → Rises (W × (expr_height e ≤ suc n)) us (assignment_from (suc n) b e o us) (assignment_from (suc k) c e o us)
-    under e us None h = found e us
-    under e us (Some (op, vs)) h =
-        (let t : Token = mark (assign_mark op.0) op.1 in
-        let f : length us ≡ suc (length vs) = ap length h in
-        let s = weaker {V = W × (expr_height e ≤ suc n)} (λ w. w.0) r in
-        longer us (omega (arith, f)) (if_rises (t ∷ vs) (t ∷ vs) (leb (looseness e) 2) refl (then_rises
-        (above_rises (expr_height e) (suc n) (suc k) t vs (λ w. w.1) (λ w. omega (arith, s.less w)) (s.assignment vs))
-        (λ x ws. found _ ws))))
+    (conditional_rises r ts) (λ e us. assignment_behind (weaker (λ w. w.0) r) e us (λ w. w.1))
 
 expression_rises : {W : Type 0} {n k : ℕ} {b c : Readers} → Rise W n k b c → (ts : List Token)
     → Rises W ts (read_expression (suc n) b ts) (read_expression (suc k) c ts)
@@ -371,3 +389,163 @@ readers_onward zero = record {
   unary = none_rises;
 }
 readers_onward (suc k) = over_rises (readers_onward k) (λ w. absurd w)
+
+-- ---- from no height
+
+-- a fault of no height, with more behind it
+pub fault_then : {A : Type 0} {B : Type 0} (deep : Bool) (ts : List Token) (o : Reads A) (f : A → List Token → Reads B)
+    → ((a : A) (us xs : List Token) → length us < length xs → Past xs (f a us)) → RisesTo (Faults deep ts) o
+    → RisesTo (Faults deep ts) (then_read o f)
+fault_then true ts o f p e = past_then ts o f e (λ a us l. p a us ts l)
+fault_then false ts o f p e = ap (λ x. then_read x f) e
+
+starts_then : (ts : List Token) (o : Reads Expr) (f : Expr → List Token → Reads Expr)
+    → ((a : Expr) (us xs : List Token) → length us < length xs → Past xs (f a us)) → RisesTo (no_reader ts) o
+    → RisesTo (no_reader ts) (then_read o f)
+starts_then [] o f p e = fault_then false [] o f p e
+starts_then (t ∷ ts) o f p e = fault_then (begins t.kind) (t ∷ ts) o f p e
+
+-- a token that makes a node is taken where there is room below it
+room_starts : {A B : Type 0} (height : ℕ) → 0 < height → (t : Token) (ts : List Token) (o : Reads A)
+    (f : A → List Token → Reads B) → ((xs : List Token) → length ts < length xs → Past xs o)
+    → ((a : A) (us xs : List Token) → length us < length xs → Past xs (f a us))
+    → Past (t ∷ ts) (then_read (above 0 height t ts o) f)
+room_starts height some t ts o f p g =
+    past_then (t ∷ ts) (above 0 height t ts o) f (past_above (t ∷ ts) 0 height t ts o some (p (t ∷ ts) (omega arith)))
+    (λ a us l. g a us (t ∷ ts) l)
+
+postfix_past : (k : ℕ) (c : Readers) → Rise ⊥ k k c c → (xs : List Token) (o : Reads Expr) → Past xs o
+    → Past xs (then_read o (λ e us. chained (suffix_step (suc k) c) e us))
+postfix_past k c r xs o p =
+    past_then xs o (λ e us. chained (suffix_step (suc k) c) e us) p (λ e us l.
+    (let all = chain_rises (suffix_step (suc k) c) (suffix_step (suc k) c)
+    (λ a vs. suffix_rises r a vs (λ w. absurd w)) (length us) e us in
+    all.onward xs l))
+
+unary_starts : (k : ℕ) (c : Readers) → Rise ⊥ k k c c → 0 < c.height → (ts : List Token)
+    → RisesTo (no_reader ts) (read_unary (suc k) c ts)
+unary_starts k c r some [] = refl
+unary_starts k c r some (t ∷ ts) = by t.kind t.at
+  where
+    parens : (at : Span) → Past (mark marks.LeftParen at ∷ ts) (parenthesised_from c at ts)
+    parens at =
+        room_starts c.height some (mark marks.LeftParen at) ts (c.expression ts) _ (r.expression ts).onward
+        (λ e us. (then_rises {W = ⊥} (mark_rises marks.RightParen us) (λ x vs. found (Parenthesised at e x) vs)).onward)
+
+    prefixed : (op : UnaryOp) (at : Span)
+        → Past (mark (unary_mark op) at ∷ ts) (unary_from (suc k) c (Some ((op, at), ts)) (mark (unary_mark op) at ∷ ts))
+    prefixed op at = room_starts c.height some (mark (unary_mark op) at) ts (c.cast ts) _ (r.cast ts).onward
+        (λ e us xs l. l)
+
+    stepped : (op : StepOp) (at : Span)
+        → Past (mark (step_mark op) at ∷ ts) (prefix_from (suc k) c (Some ((op, at), ts)) (mark (step_mark op) at ∷ ts))
+    stepped op at = room_starts c.height some (mark (step_mark op) at) ts (c.unary ts) _ (r.unary ts).onward
+        (λ e us xs l. l)
+
+    marked : (m : Punct) (at : Span) → RisesTo (no_reader (mark m at ∷ ts)) (read_unary (suc k) c (mark m at ∷ ts))
+    marked marks.LeftParen at = postfix_past k c r (mark marks.LeftParen at ∷ ts) (parenthesised_from c at ts) (parens at)
+    marked marks.PlusPlus at = stepped step.Increment at
+    marked marks.MinusMinus at = stepped step.Decrement at
+    marked marks.And at = prefixed unary.AddressOf at
+    marked marks.Star at = prefixed unary.Dereference at
+    marked marks.Plus at = prefixed unary.Plus at
+    marked marks.Minus at = prefixed unary.Minus at
+    marked marks.Tilde at = prefixed unary.Complement at
+    marked marks.Bang at = prefixed unary.Not at
+    marked _ at = refl
+
+    by : (kind : TokenKind) (at : Span) → (let x : Token = record { kind = kind; at = at } in
+        RisesTo (no_reader (x ∷ ts)) (read_unary (suc k) c (x ∷ ts)))
+    by (kinds.Ident name) at =
+        (let f : Ident = record { name = name; at = at } in
+        let x : Token = record { kind = kinds.Ident name; at = at } in
+        postfix_past k c r (x ∷ ts) (call_from c f (take_mark marks.LeftParen ts) ts)
+        ((call_rises r f ts).onward (x ∷ ts) (omega arith)))
+    by (kinds.Number value true) at = refl
+    by (kinds.Number value false) at =
+        (let x : Token = record { kind = kinds.Number value false; at = at } in
+        postfix_past k c r (x ∷ ts) (Found (Number value at) ts) (omega arith))
+    by (kinds.Text bytes) at =
+        (let x : Token = record { kind = kinds.Text bytes; at = at } in
+        let first : TextPiece = record { bytes = bytes; at = at } in
+        postfix_past k c r (x ∷ ts) (text_from first (take_texts ts)) ((texts_rises first ts).onward (x ∷ ts) (omega arith)))
+    by (kinds.Mark m) at = marked m at
+    by (kinds.Word w) at = refl
+
+cast_starts : (k : ℕ) (c : Readers) → Rise ⊥ k k c c → 0 < c.height → (ts : List Token)
+    → RisesTo (no_reader ts) (read_cast (suc k) c ts)
+cast_starts k c r some ts = under (take_mark marks.LeftParen ts) (mark_taken marks.LeftParen ts)
+  where
+    with_specifiers : (o : Span) (us : List Token) (ss : List Specifier) → ts ≡ mark marks.LeftParen o ∷ us
+        → RisesTo (no_reader ts) (cast_with (suc k) c o ss us ts)
+    with_specifiers o us [] h = unary_starts k c r some ts
+    with_specifiers o us (s ∷ ss) h =
+        (let t : Token = mark marks.LeftParen o in
+        subst (λ zs. RisesTo (no_reader zs) (cast_inside c o us)) (sym h)
+        (past_above (t ∷ us) 0 c.height t us _ some ((cast_behind_rises r o us).onward (t ∷ us) (omega arith))))
+
+    under : (o : Takes Span) → HoldsTaken (λ at us. ts ≡ mark marks.LeftParen at ∷ us) o
+        → RisesTo (no_reader ts) (cast_from (suc k) c o ts)
+    under None h = unary_starts k c r some ts
+    under (Some (o, us)) h = with_specifiers o us (take_specifiers us).0 h
+
+infix_past : (level k : ℕ) (right : Reader) → ((ts : List Token) → Rises ⊥ ts (right ts) (right ts)) → (e : Expr)
+    (us xs : List Token) → length us < length xs → Past xs (chained (infix_step level k right) e us)
+infix_past level k right r e us =
+    (chain_rises {W = ⊥} (infix_step level k right) (infix_step level k right)
+    (λ l vs. infix_turn k k level right right (λ w. absurd w) r l vs (λ w. absurd w)) (length us) e us).onward
+
+binary_starts : (k : ℕ) (c : Readers) → Rise ⊥ k k c c → 0 < c.height → (j : ℕ) → j ≤ 10 → (ts : List Token)
+    → RisesTo (no_reader ts) (read_binary (suc k) c j ts)
+binary_starts k c r some zero h ts = cast_starts k c r some ts
+binary_starts k c r some (suc j) h ts =
+    (let le : j ≤ 10 = omega (arith, h) in
+    starts_then ts (read_binary (suc k) c j ts) _ (infix_past (suc j) (suc k) (c.binary j) (r.binary j le))
+    (binary_starts k c r some j le ts))
+
+conditional_starts : (k : ℕ) (c : Readers) → Rise ⊥ k k c c → 0 < c.height → (ts : List Token)
+    → RisesTo (no_reader ts) (read_conditional (suc k) c ts)
+conditional_starts k c r some ts =
+    starts_then ts (read_binary (suc k) c 10 ts) _ (λ e us. (conditional_behind r e us (λ w. absurd w)).onward)
+    (binary_starts k c r some 10 (omega arith) ts)
+
+assignment_starts : (k : ℕ) (c : Readers) → Rise ⊥ k k c c → 0 < c.height → (ts : List Token)
+    → RisesTo (no_reader ts) (read_assignment (suc k) c ts)
+assignment_starts k c r some ts =
+    starts_then ts (read_conditional (suc k) c ts) _ (λ e us. (assignment_behind r e us (λ w. absurd w)).onward)
+    (conditional_starts k c r some ts)
+
+expression_starts : (k : ℕ) (c : Readers) → Rise ⊥ k k c c → 0 < c.height → (ts : List Token)
+    → RisesTo (no_reader ts) (read_expression (suc k) c ts)
+expression_starts k c r some ts =
+    starts_then ts (read_assignment (suc k) c ts) _ (infix_past 13 (suc k) c.assignment r.assignment)
+    (assignment_starts k c r some ts)
+
+pub height_of : (k : ℕ) → (readers k).height ≡ k
+unfolding readers
+height_of zero = refl
+height_of (suc k) = refl
+
+-- two levels more are enough for expressions
+pub readers_rise : (n k : ℕ) → n + 2 ≤ k → Rise (Unit {0}) n k (readers n) (readers k)
+unfolding readers
+readers_rise zero zero l = absurd (omega (arith, l))
+readers_rise zero (suc k) l =
+    (let r = readers_onward k in
+    let c : Readers = readers k in
+    let some : 0 < c.height = omega (arith, l, height_of k) in
+    record {
+      less = λ w. omega arith;
+      higher = λ w. omega arith;
+      sound = λ w. sound 0;
+      expression = λ ts. record { rises = λ w. expression_starts k c r some ts; onward = (expression_rises r ts).onward };
+      assignment = λ ts. record { rises = λ w. assignment_starts k c r some ts; onward = (assignment_rises r ts).onward };
+      conditional = λ ts.
+          record { rises = λ w. conditional_starts k c r some ts; onward = (conditional_rises r ts).onward };
+      binary = λ j h ts.
+          record { rises = λ w. binary_starts k c r some j h ts; onward = (binary_rises r j h ts).onward };
+      cast = λ ts. record { rises = λ w. cast_starts k c r some ts; onward = (cast_rises r ts).onward };
+      unary = λ ts. record { rises = λ w. unary_starts k c r some ts; onward = (unary_rises r ts).onward };
+    })
+readers_rise (suc n) zero l = absurd (omega (arith, l))
+readers_rise (suc n) (suc k) l = over_rises (readers_rise n k (omega (arith, l))) (λ w. sound (suc n))
