@@ -10,3 +10,4 @@ pub mod SoundDeclarations
 pub mod SoundStatements
 pub mod Rising
 pub mod RisingExpressions
+pub mod RisingDeclarations

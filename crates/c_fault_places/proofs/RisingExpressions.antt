@@ -78,7 +78,7 @@ low c h ts (Faults deep us) s = tt
 low c h ts (Found t us) s = s.low
 
 -- behind a token that makes a node with room below it
-room_rises : {A W : Type 0} {n k : ℕ} {b c : Readers} {o q : Reads A} → Rise W n k b c → (t : Token) (ts : List Token)
+pub room_rises : {A W : Type 0} {n k : ℕ} {b c : Readers} {o q : Reads A} → Rise W n k b c → (t : Token) (ts : List Token)
     → Rises W ts o q → Rises W (t ∷ ts) (above 0 b.height t ts o) (above 0 c.height t ts q)
 room_rises {b = b} {c = c} r t ts s = above_rises 0 b.height c.height t ts (λ w. omega arith) r.higher s
 
@@ -406,7 +406,7 @@ starts_then [] o f p e = fault_then false [] o f p e
 starts_then (t ∷ ts) o f p e = fault_then (begins t.kind) (t ∷ ts) o f p e
 
 -- a token that makes a node is taken where there is room below it
-room_starts : {A B : Type 0} (height : ℕ) → 0 < height → (t : Token) (ts : List Token) (o : Reads A)
+pub room_starts : {A B : Type 0} (height : ℕ) → 0 < height → (t : Token) (ts : List Token) (o : Reads A)
     (f : A → List Token → Reads B) → ((xs : List Token) → length ts < length xs → Past xs o)
     → ((a : A) (us xs : List Token) → length us < length xs → Past xs (f a us))
     → Past (t ∷ ts) (then_read (above 0 height t ts o) f)

@@ -105,7 +105,7 @@ sound_more {A} tokens P read sound ts x us one =
 
 -- ---- declarators
 
-name_taken : (ts : List Token) → ts ≡ maybe_name_tokens (take_name ts).0 ++ (take_name ts).1
+pub name_taken : (ts : List Token) → ts ≡ maybe_name_tokens (take_name ts).0 ++ (take_name ts).1
 name_taken [] = refl
 name_taken (t ∷ ts) = by_kind t.kind t.at
   where
