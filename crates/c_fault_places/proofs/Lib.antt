@@ -11,3 +11,4 @@ pub mod SoundStatements
 pub mod Rising
 pub mod RisingExpressions
 pub mod RisingDeclarations
+pub mod RisingStatements
