@@ -1,6 +1,6 @@
 -- With more height, declarations that were found are found, and faults of height move on.
-use Rattle.std.proofs.Common.{◌≡◌, ℕ, zero, suc, ◌+◌, ◌≤◌, ◌<◌, List, [], ◌∷◌, ◌++◌, length, Option, Some, None}
-use Rattle.std.proofs.Common.{refl, ap, sym, arith}
+use Rattle.std.proofs.Common.{◌≡◌, ℕ, suc, List, [], ◌∷◌, ◌++◌, length, Option, Some, None}
+use Rattle.std.proofs.Common.{ap, arith}
 use Rattle.pcc_base.specs.declared.span.Span.{Span}
 use Rattle.c_lex.specs.declared.token.Token.{Token}
 use Rattle.c_lex.specs.declared.token.Punct.{Punct}
@@ -8,19 +8,19 @@ use Rattle.c_lex.specs.declared.token.Punct.TheVariants as marks
 use Rattle.c_syntax.specs.declared.expression.Identifier.{Identifier}
 use Rattle.c_syntax.specs.declared.expression.Specifier.{Specifier}
 use Rattle.c_syntax.specs.Marks.{mark}
-use Rattle.c_syntax.specs.Expressions.{Expr, Star}
+use Rattle.c_syntax.specs.Expressions.{Star}
 use Rattle.c_syntax.specs.ExpressionTokens.{specifiers_tokens, pointer_tokens}
 use Rattle.c_syntax.specs.Declarations.{Plain, DeclaratorTree}
 use Rattle.c_syntax.specs.DeclarationTokens.{maybe_name_tokens}
 use Rattle.c_grammar.specs.Taking.{take_mark, take_specifiers, take_pointer}
-use Rattle.c_fault_places.specs.Chains.{Step, Done, Goes, Takes, Reads, Found, Faults, then_read, then_step, room, chained}
+use Rattle.c_fault_places.specs.Chains.{Takes, Reads}
 use Rattle.c_fault_places.specs.Reading.{Reader, Readers, Values}
 use Rattle.c_fault_places.specs.DeclarationReading.{Listed, list_at, list_step, read_more, take_name, maybe_from, maybe_before}
-use Rattle.c_fault_places.specs.DeclarationReading.{array_behind, maybe_array_from, read_maybe_array, parameter_named}
+use Rattle.c_fault_places.specs.DeclarationReading.{array_behind, maybe_array_from, read_maybe_array}
 use Rattle.c_fault_places.specs.DeclarationReading.{parameter_behind, parameter_with, read_parameter, parameters_from}
-use Rattle.c_fault_places.specs.DeclarationReading.{read_parameters, parameters_behind, part_in_parens, part_from, read_part}
-use Rattle.c_fault_places.specs.DeclarationReading.{declarator_named, declarator_behind, read_declarator, Braced, brace_close}
-use Rattle.c_fault_places.specs.DeclarationReading.{brace_at, brace_behind, brace_step, read_values, braces_behind}
+use Rattle.c_fault_places.specs.DeclarationReading.{read_parameters, part_in_parens, part_from, read_part}
+use Rattle.c_fault_places.specs.DeclarationReading.{declarator_named, read_declarator, Braced, brace_close}
+use Rattle.c_fault_places.specs.DeclarationReading.{brace_at, brace_behind, brace_step, read_values}
 use Rattle.c_fault_places.specs.DeclarationReading.{initialiser_from, read_initialiser, value_from, item_behind, read_item}
 use Rattle.c_fault_places.specs.DeclarationReading.{declaration_behind, declaration_with, read_declaration}
 use Rattle.c_fault_places.proofs.Sound.{HoldsTaken, mark_taken, specifiers_taken, pointer_taken}

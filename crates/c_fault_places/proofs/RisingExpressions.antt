@@ -1,6 +1,6 @@
 -- With three levels more, expressions that were found are found, and faults of height move on.
-use Rattle.std.proofs.Common.{◌≡◌, ℕ, zero, suc, ◌+◌, ◌≤◌, ◌<◌, Bool, true, false, List, [], ◌∷◌, ◌++◌, length, Option}
-use Rattle.std.proofs.Common.{Some, None, leb, ltb, if◌then◌else◌, refl, ap, sym, subst, arith}
+use Rattle.std.proofs.Common.{◌≡◌, ℕ, zero, suc, ◌+◌, ◌≤◌, ◌<◌, Bool, true, false, List, [], ◌∷◌, length}
+use Rattle.std.proofs.Common.{Some, None, leb, if◌then◌else◌, refl, ap, sym, subst, arith}
 use Rattle.pcc_base.specs.declared.span.Span.{Span}
 use Rattle.c_lex.specs.declared.token.Token.{Token}
 use Rattle.c_lex.specs.declared.token.TokenKind.{TokenKind}
@@ -15,19 +15,19 @@ use Rattle.c_syntax.specs.declared.operator.StepOp.TheVariants as step
 use Rattle.c_syntax.specs.declared.operator.AssignOp.{AssignOp}
 use Rattle.c_syntax.specs.declared.expression.Identifier.{Identifier as Ident}
 use Rattle.c_syntax.specs.declared.expression.Specifier.{Specifier}
-use Rattle.c_syntax.specs.Marks.{mark, word, binary_mark, unary_mark, step_mark, assign_mark}
+use Rattle.c_syntax.specs.Marks.{mark, binary_mark, unary_mark, step_mark, assign_mark}
 use Rattle.c_syntax.specs.declared.expression.TextPiece.{TextPiece}
-use Rattle.c_syntax.specs.Expressions.{Expr, Star, Number, Parenthesised}
-use Rattle.c_syntax.specs.ExpressionTokens.{expr_tokens, text_tokens, specifiers_tokens, pointer_tokens, expr_height}
+use Rattle.c_syntax.specs.Expressions.{Expr, Number, Parenthesised}
+use Rattle.c_syntax.specs.ExpressionTokens.{text_tokens, specifiers_tokens, pointer_tokens, expr_height}
 use Rattle.c_syntax.specs.ExpressionTokens.{looseness, binary_level}
 use Rattle.c_grammar.specs.Heads.{begins}
 use Rattle.c_grammar.specs.Taking.{is_mark, take_mark, take_unary, take_step, take_assign, take_binary, take_texts}
 use Rattle.c_grammar.specs.Taking.{take_specifiers, take_pointer}
-use Rattle.c_fault_places.specs.Chains.{Step, Done, Fails, Goes, Takes, Reads, Found, Faults, above, then_read, then_step}
-use Rattle.c_fault_places.specs.Chains.{chain, chained}
+use Rattle.c_fault_places.specs.Chains.{Takes, Reads, Found, Faults, above, then_read}
+use Rattle.c_fault_places.specs.Chains.{chained}
 use Rattle.c_fault_places.specs.Taking.{read_mark}
 use Rattle.c_fault_places.specs.Laws.{Past, RisesTo}
-use Rattle.c_fault_places.specs.Reading.{Reader, Readers, Values, readers, no_reader, no_readers, readers_over, value_at, value_step}
+use Rattle.c_fault_places.specs.Reading.{Reader, Readers, Values, readers, no_reader, readers_over, value_at, value_step}
 use Rattle.c_fault_places.specs.Reading.{arguments_from, read_arguments, call_from, parenthesised_from, primary_at, text_from}
 use Rattle.c_fault_places.specs.Reading.{read_primary, postfix_from, suffix_from, suffix_step, read_postfix, unary_from}
 use Rattle.c_fault_places.specs.Reading.{prefix_from, read_unary, cast_behind, cast_inside, cast_with, cast_from, read_cast}
@@ -37,7 +37,7 @@ use Rattle.c_fault_places.proofs.Sound.{Holds, HoldsTaken, HoldsStep, step_above
 use Rattle.c_fault_places.proofs.Sound.{sound, sound_primary, sound_binary, sound_conditional, sound_assignment, mark_taken}
 use Rattle.c_fault_places.proofs.Sound.{unary_taken, step_taken, assign_taken, binary_taken, texts_taken, specifiers_taken}
 use Rattle.c_fault_places.proofs.Sound.{pointer_taken, mark_read}
-use Rattle.c_fault_places.proofs.Rising.{Rises, StepRises, TurnRises, then_low, then_rises, step_rises, found, faults, goes}
+use Rattle.c_fault_places.proofs.Rising.{Rises, TurnRises, then_low, then_rises, step_rises, found, faults, goes}
 use Rattle.c_fault_places.proofs.Rising.{turn_done, longer, behind, behind_row, turn, turn_behind, mark_rises, past_above}
 use Rattle.c_fault_places.proofs.Rising.{above_rises, chain_low, chain_rises, past_then}
 

@@ -1,5 +1,5 @@
 -- With three levels more, statements and units that were found are found, and faults of height move on.
-use Rattle.std.proofs.Common.{◌≡◌, ℕ, zero, suc, ◌+◌, ◌≤◌, ◌<◌, Bool, true, false, List, [], ◌∷◌, ◌++◌, length, Option}
+use Rattle.std.proofs.Common.{◌≡◌, ℕ, zero, suc, ◌+◌, ◌≤◌, ◌<◌, Bool, true, false, List, [], ◌∷◌, length}
 use Rattle.std.proofs.Common.{Some, None, ltb, if◌then◌else◌, refl, ap, sym, subst, arith}
 use Rattle.std.proofs.lemmas.Bool.{ltb-true}
 use Rattle.pcc_base.specs.declared.span.Span.{Span}
@@ -14,25 +14,22 @@ use Rattle.c_syntax.specs.declared.operator.SpecifierWord.{SpecifierWord}
 use Rattle.c_syntax.specs.declared.operator.SpecifierWord.TheVariants as specifier
 use Rattle.c_syntax.specs.declared.expression.Specifier.{Specifier}
 use Rattle.c_syntax.specs.Marks.{mark, word}
-use Rattle.c_syntax.specs.Expressions.{Expr}
 use Rattle.c_syntax.specs.ExpressionTokens.{specifiers_tokens}
 use Rattle.c_syntax.specs.Declarations.{DeclaratorTree, DeclarationTree}
 use Rattle.c_syntax.specs.Statements.{LabelTree, Stmt, Declared, Simple, Switch, While, Do, stmts_of, ExternalTree}
 use Rattle.c_syntax.specs.Statements.{FunctionTree, DeclaredTree}
 use Rattle.c_grammar.specs.Heads.{begins}
 use Rattle.c_grammar.specs.Taking.{take_mark, take_word, take_specifiers}
-use Rattle.c_fault_places.specs.Heads.{begins_item}
-use Rattle.c_fault_places.specs.Chains.{Step, Done, Goes, Takes, Reads, Found, Faults, then_read, then_step, above, room}
-use Rattle.c_fault_places.specs.Chains.{chain, chained}
+use Rattle.c_fault_places.specs.Chains.{Takes, Reads, Found, Faults, then_read, room}
 use Rattle.c_fault_places.specs.Taking.{read_mark, read_word}
 use Rattle.c_fault_places.specs.Laws.{Past, RisesTo}
-use Rattle.c_fault_places.specs.Reading.{Reader, Readers, readers, no_readers, no_reader}
-use Rattle.c_fault_places.specs.DeclarationReading.{maybe_from, maybe_before, read_declarator, declaration_behind, declaration_with}
+use Rattle.c_fault_places.specs.Reading.{Reader, Readers, readers, no_reader}
+use Rattle.c_fault_places.specs.DeclarationReading.{maybe_from, declaration_behind, declaration_with}
 use Rattle.c_fault_places.specs.DeclarationReading.{read_declaration}
 use Rattle.c_fault_places.specs.StatementReading.{StmtReader, Below, Condition, read_condition, until_at, until_step}
 use Rattle.c_fault_places.specs.StatementReading.{read_until, default_at, label_at, label_step, read_labels, read_labelled}
 use Rattle.c_fault_places.specs.StatementReading.{item_with, read_block_item, block_behind, else_from, if_behind}
-use Rattle.c_fault_places.specs.StatementReading.{while_behind, do_behind, ForRest, read_for_rest, for_with, for_behind}
+use Rattle.c_fault_places.specs.StatementReading.{while_behind, do_behind, read_for_rest, for_with, for_behind}
 use Rattle.c_fault_places.specs.StatementReading.{switch_behind, break_behind, continue_behind, return_behind, read_simple}
 use Rattle.c_fault_places.specs.StatementReading.{or_return, or_continue, or_break, or_switch, or_for, or_do, or_while}
 use Rattle.c_fault_places.specs.StatementReading.{or_if, or_block, read_statement, no_item, nothing_below, below_over}
@@ -42,9 +39,9 @@ use Rattle.c_fault_places.proofs.Reading.{readers-none}
 use Rattle.c_fault_places.proofs.Chains.{above_low}
 use Rattle.c_fault_places.proofs.StatementReading.{below_of-none, below_of-suc}
 use Rattle.c_fault_places.proofs.Sound.{Holds, HoldsTaken, mark_taken, word_taken, specifiers_taken}
-use Rattle.c_fault_places.proofs.Rising.{Rises, StepRises, TurnRises, then_low, then_rises, step_rises, found, faults, goes}
+use Rattle.c_fault_places.proofs.Rising.{Rises, TurnRises, then_low, then_rises, step_rises, found, faults, goes}
 use Rattle.c_fault_places.proofs.Rising.{turn_done, longer, behind, behind_row, turn, turn_behind, mark_rises, word_rises}
-use Rattle.c_fault_places.proofs.Rising.{above_rises, chain_rises, past_then}
+use Rattle.c_fault_places.proofs.Rising.{chain_rises, past_then}
 use Rattle.c_fault_places.proofs.RisingExpressions.{Rise, rises_weaker, readers_onward, readers_rise, fault_then, room_starts}
 use Rattle.c_fault_places.proofs.RisingExpressions.{height_of}
 use Rattle.c_fault_places.proofs.RisingDeclarations.{maybe_rises, declarator_rises, declaration_behind_rises}
