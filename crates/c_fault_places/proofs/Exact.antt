@@ -1,5 +1,5 @@
 -- The place of a fault is exact.
-use Rattle.std.proofs.Common.{◌≡◌, ℕ, suc, ◌+◌, ◌≤◌, ◌<◌, Bool, true, false, List, [], ◌∷◌, ◌++◌, length, length-append}
+use Rattle.std.proofs.Common.{◌≡◌, ℕ, suc, ◌+◌, ◌<◌, Bool, true, false, List, [], ◌∷◌, ◌++◌, length, length-append}
 use Rattle.std.proofs.Common.{if◌then◌else◌, refl, ap, sym, ◌∙◌, subst, arith, append_assoc}
 use Rattle.std.proofs.lemmas.List.{append-nil}
 use Rattle.pcc_base.specs.declared.fault.FaultKind.TheVariants.{Syntax, TooDeep}
@@ -9,20 +9,14 @@ use Rattle.c_syntax.specs.DeclarationTokens.{greatest}
 use Rattle.c_syntax.specs.Grammar.{Tree, unit_tokens, external_height}
 use Rattle.c_grammar.specs.Faults.{Begins, FaultAt}
 use Rattle.c_fault_places.specs.Chains.{Reads, Found, Faults}
-use Rattle.c_fault_places.specs.Laws.{Same, Kept, Prompt, Past, RisesTo}
+use Rattle.c_fault_places.specs.Laws.{Same, Kept, Past, RisesTo}
 use Rattle.c_fault_places.specs.StatementReading.{below_of, read_unit}
 use Rattle.c_fault_places.proofs.Sound.{Holds}
 use Rattle.c_fault_places.proofs.SoundStatements.{SoundUnit, sound_unit}
+use Rattle.c_fault_places.proofs.PromptStatements.{unit_prompt}
+use Rattle.c_fault_places.proofs.RisingStatements.{unit_rises}
 use Rattle.c_fault_places.proofs.RightStatements.{begins_program}
 use Rattle.c_fault_places.proofs.StatementComplete.{tree_read}
-
--- the answer for a unit rests on the tokens taken and on the next one
-abbrev pub Prompts : Type 0
-Prompts = (n : ℕ) → Prompt (read_unit (below_of n))
-
--- what three levels more change
-abbrev pub Rises : Type 0
-Rises = (n k : ℕ) → n + 3 ≤ k → (ts : List Token) → RisesTo (read_unit (below_of n) ts) (read_unit (below_of k) ts)
 
 abbrev head_or : Token → List Token → Token
 head_or t [] = t
@@ -64,18 +58,18 @@ apart : {A : Type 0} (o : Reads A) (a : A) (us vs : List Token) (deep : Bool) �
 apart o a us vs deep f g = absurd (let wrong : true ≡ false = ap is_found (sym f ∙ g) in cc)
 
 -- no tokens are a program where there is a fault that is not of height
-none_at_all : Rises → (n : ℕ) (ts us : List Token) → read_unit (below_of n) ts ≡ Faults false us → (h : ℕ)
+none_at_all : (n : ℕ) (ts us : List Token) → read_unit (below_of n) ts ≡ Faults false us → (h : ℕ)
     (x : List ExternalTree) → Tree ts h x → ⊥
-none_at_all rises n ts us reads h x tree =
+none_at_all n ts us reads h x tree =
     apart (read_unit (below_of (h + n + 3)) ts) x [] us false (tree_read (h + n + 3) ts h x tree (omega arith))
-    (subst (λ o. RisesTo o (read_unit (below_of (h + n + 3)) ts)) reads (rises n (h + n + 3) (omega arith) ts))
+    (subst (λ o. RisesTo o (read_unit (below_of (h + n + 3)) ts)) reads (unit_rises n (h + n + 3) ts (omega arith)))
 
 -- no program of any height begins with these tokens and the next
-none_begins : Rises → (n : ℕ) (before : List Token) (t : Token)
+none_begins : (n : ℕ) (before : List Token) (t : Token)
     → ((w : List Token) → read_unit (below_of n) (before ++ t ∷ w) ≡ Faults false (t ∷ w)) → (most : ℕ)
     → Begins most (before ++ t ∷ []) → ⊥
-none_begins rises n before t same most (after, h, x, low, tree) =
-    none_at_all rises n (before ++ t ∷ after) (t ∷ after) (same after) h x
+none_begins n before t same most (after, h, x, low, tree) =
+    none_at_all n (before ++ t ∷ after) (t ∷ after) (same after) h x
     (subst (λ y. Tree y h x) (append_assoc before (t ∷ []) after) tree)
 
 -- none of this height does
@@ -121,42 +115,42 @@ never_past : {A : Type 0} (o : Reads A) → Past [] o → ⊥
 never_past (Found a vs) p = absurd (omega arith)
 never_past (Faults d vs) p = absurd (omega arith)
 
-place_of : Rises → (n : ℕ) (ts : List Token) (deep : Bool) (us before : List Token)
+place_of : (n : ℕ) (ts : List Token) (deep : Bool) (us before : List Token)
     → read_unit (below_of n) ts ≡ Faults deep us → (ts ≡ before ++ us)
     → ((w : List Token) → Same us w → read_unit (below_of n) (before ++ w) ≡ Faults deep w) → Begins (suc n) before
     → FaultAt (suc n) (if deep then TooDeep else Syntax) before us
-place_of rises n ts true [] before r e same begins =
+place_of n ts true [] before r e same begins =
     absurd (never_past (read_unit (below_of (n + 3)) ts)
-    (subst (λ o. RisesTo o (read_unit (below_of (n + 3)) ts)) r (rises n (n + 3) (omega arith) ts)))
-place_of rises n ts false [] before r e same begins = (
+    (subst (λ o. RisesTo o (read_unit (below_of (n + 3)) ts)) r (unit_rises n (n + 3) ts (omega arith))))
+place_of n ts false [] before r e same begins = (
   refl,
   begins,
   λ h x tree.
-      none_at_all rises n ts [] r h x (subst (λ y. Tree y h x) (sym (e ∙ append-nil before)) tree),
+      none_at_all n ts [] r h x (subst (λ y. Tree y h x) (sym (e ∙ append-nil before)) tree),
 )
-place_of rises n ts false (t ∷ us) before r e same begins =
-    (begins, none_begins rises n before t (λ w. same (t ∷ w) refl))
-place_of rises n ts true (t ∷ us) before r e same begins = (
+place_of n ts false (t ∷ us) before r e same begins =
+    (begins, none_begins n before t (λ w. same (t ∷ w) refl))
+place_of n ts true (t ∷ us) before r e same begins = (
   begins,
   none_low n before t (λ w. same (t ∷ w) refl),
   (
     suc (n + 3),
     higher_begins (n + 3) before t us (read_unit (below_of (n + 3)) (before ++ t ∷ us)) refl
         (subst (λ y. Past (t ∷ us) (read_unit (below_of (n + 3)) y)) e
-        (subst (λ o. RisesTo o (read_unit (below_of (n + 3)) ts)) r (rises n (n + 3) (omega arith) ts))),
+        (subst (λ o. RisesTo o (read_unit (below_of (n + 3)) ts)) r (unit_rises n (n + 3) ts (omega arith)))),
   ),
 )
 
 -- Where the reading of a unit faults, what is before that begins a program, and the fault stands there.
-pub exact : Prompts → Rises → (n : ℕ) (ts : List Token) (deep : Bool) (us : List Token)
+pub exact : (n : ℕ) (ts : List Token) (deep : Bool) (us : List Token)
     → read_unit (below_of n) ts ≡ Faults deep us
     → (before : List Token) × (ts ≡ before ++ us) × FaultAt (suc n) (if deep then TooDeep else Syntax) before us
-exact prompt rises n ts deep us reads =
+exact n ts deep us reads =
     (let k : Kept (read_unit (below_of n)) ts (Faults deep us) =
-    subst (λ o. Kept (read_unit (below_of n)) ts o) reads (prompt n ts) in
+    subst (λ o. Kept (read_unit (below_of n)) ts o) reads (unit_prompt n ts) in
     let r = begins_program n ts deep us reads in (
       k.0,
       k.1,
-      place_of rises n ts deep us k.0 reads k.1 k.2
+      place_of n ts deep us k.0 reads k.1 k.2
           (subst (λ b. Begins (suc n) b) (one_prefix r.0 k.0 us (sym r.1 ∙ k.1)) r.2),
     ))

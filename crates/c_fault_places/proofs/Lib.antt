@@ -18,3 +18,7 @@ pub mod PromptTokens
 pub mod PromptExpressions
 pub mod PromptDeclarations
 pub mod PromptStatements
+pub mod Rising
+pub mod RisingExpressions
+pub mod RisingDeclarations
+pub mod RisingStatements

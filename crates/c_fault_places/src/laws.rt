@@ -25,11 +25,22 @@ pub fn faults_begin_programs()
         → (before : List Token) × (ts ≡ before ++ us) × Begins (suc n) before }
 {}
 
-/// Where readings of units are prompt and rise with three levels more, the fault of tokens stands where reading them
-/// faults.
+/// What is read of a unit rests on the tokens that are read and on the next one alone, whatever stands behind it.
+pub fn readings_are_prompt()
+    ensures { (n : ℕ) → Prompt (read_unit (below_of n)) }
+{}
+
+/// Where the height may be at least three more, what was found is found, a fault that is not of height stays, and one
+/// of height moves on.
+pub fn faults_of_height_move_on()
+    ensures { (n k : ℕ) (ts : List Token) → n + 3 ≤ k
+        → RisesTo (read_unit (below_of n) ts) (read_unit (below_of k) ts) }
+{}
+
+/// Where the reading of a unit faults, whose height may be at most `suc n`, there the fault of the tokens stands: what
+/// is before it begins a program of at most this height, and with the next token none of this height does, or none at
+/// all.
 pub fn faults_stand_there()
-    ensures { ((m : ℕ) → Prompt (read_unit (below_of m)))
-        → ((m k : ℕ) → m + 3 ≤ k → (ts : List Token) → RisesTo (read_unit (below_of m) ts) (read_unit (below_of k) ts))
-        → (n : ℕ) (ts : List Token) (deep : Bool) (us : List Token) → read_unit (below_of n) ts ≡ Faults deep us
+    ensures { (n : ℕ) (ts : List Token) (deep : Bool) (us : List Token) → read_unit (below_of n) ts ≡ Faults deep us
         → (before : List Token) × (ts ≡ before ++ us) × FaultAt (suc n) (if deep then TooDeep else Syntax) before us }
 {}

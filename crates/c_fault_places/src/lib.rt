@@ -4,4 +4,7 @@
 
 mod laws;
 
-pub use laws::{faults_begin_programs, faults_stand_there, read_trees};
+pub use laws::{
+    faults_begin_programs, faults_of_height_move_on, faults_stand_there, read_trees,
+    readings_are_prompt,
+};
