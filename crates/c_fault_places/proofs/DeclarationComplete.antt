@@ -25,7 +25,7 @@ use Rattle.c_syntax.specs.DeclarationTokens.{parameter_height, part_height, init
 use Rattle.c_syntax.specs.DeclarationTokens.{item_height, declaration_height, IsMaybeConditional, IsMaybeArray}
 use Rattle.c_syntax.specs.DeclarationTokens.{IsParameter, IsPart, IsInitialiser, IsMaybeValue, IsItem, AreItems}
 use Rattle.c_syntax.specs.DeclarationTokens.{IsDeclaration}
-use Rattle.c_fault_places.specs.Chains.{Done, Goes, Reads, Found, chained}
+use Rattle.c_fault_places.specs.Chains.{Goes, Reads, Found, chained}
 use Rattle.c_fault_places.proofs.Chains.{Continues, continues_start, continues_goes, continues_done}
 use Rattle.c_grammar.specs.Taking.{take_mark, take_specifiers, take_pointer}
 use Rattle.c_fault_places.specs.Reading.{Reader, Readers, Values}

@@ -8,8 +8,17 @@ pub mod StatementComplete
 pub mod Sound
 pub mod SoundDeclarations
 pub mod SoundStatements
+pub mod Right
+pub mod RightExpressions
+pub mod RightDeclarations
+pub mod RightStatements
+pub mod Exact
 pub mod Prompt
 pub mod PromptTokens
 pub mod PromptExpressions
 pub mod PromptDeclarations
 pub mod PromptStatements
+pub mod Rising
+pub mod RisingExpressions
+pub mod RisingDeclarations
+pub mod RisingStatements

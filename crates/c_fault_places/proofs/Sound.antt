@@ -22,7 +22,7 @@ use Rattle.c_syntax.specs.declared.operator.SpecifierWord.{SpecifierWord}
 use Rattle.c_syntax.specs.declared.expression.Identifier.{Identifier as Ident}
 use Rattle.c_syntax.specs.declared.expression.Specifier.{Specifier}
 use Rattle.c_syntax.specs.Marks.{ident, mark, word, binary_mark, unary_mark, step_mark, assign_mark, specifier_word}
-use Rattle.c_syntax.specs.Expressions.{Expr, exprs_of, Postfix}
+use Rattle.c_syntax.specs.Expressions.{Expr, exprs_of}
 use Rattle.c_syntax.specs.ExpressionTokens.{expr_tokens, exprs_tokens, more_tokens, text_tokens, specifiers_tokens}
 use Rattle.c_syntax.specs.ExpressionTokens.{consts_tokens, pointer_tokens, expr_height, exprs_height, looseness}
 use Rattle.c_syntax.specs.ExpressionTokens.{IsExpr, AreValues, Separate, Follow, IsSpecifiers, binary_level}
@@ -132,7 +132,7 @@ holds_chain I step keeps (suc n) a ts i = holds_on I (step a ts) (chain step n) 
 abbrev pub At : {A : Type 0} → (A → Span → Token) → List Token → A × Span → List Token → Type 0
 At token ts a us = ts ≡ token a.0 a.1 ∷ us
 
-mark_is : (m : Punct) (kind : TokenKind) → is_mark m kind ≡ true → kind ≡ kinds.Mark m
+pub mark_is : (m : Punct) (kind : TokenKind) → is_mark m kind ≡ true → kind ≡ kinds.Mark m
 mark_is m (kinds.Mark n) e = ap kinds.Mark (sym (same_true the_marks tt m n e))
 mark_is m (kinds.Word w) e = absurd (let wrong : false ≡ true = e in cc)
 mark_is m (kinds.Ident name) e = absurd (let wrong : false ≡ true = e in cc)
@@ -354,7 +354,7 @@ pub record SoundReaders (h : ℕ) (b : Readers) : Type 0 where
   pub unary : SoundReader 2 h b.unary
 
 -- a looser rule has the trees of a tighter one
-looser : (c d h : ℕ) (ts : List Token) (t : Expr) (us : List Token) → c ≤ d → Sound c h ts t us → Sound d h ts t us
+pub looser : (c d h : ℕ) (ts : List Token) (t : Expr) (us : List Token) → c ≤ d → Sound c h ts t us → Sound d h ts t us
 looser c d h ts t us le s = record { tokens = s.tokens; is = s.is; loose = omega (arith, s.loose); low = s.low }
 
 holds_looser : (c d h : ℕ) (ts : List Token) (r : Reads Expr) → c ≤ d → Holds (Sound c h ts) r → Holds (Sound d h ts) r
@@ -411,7 +411,7 @@ values_push h ts (x ∷ es) commas us vs ws at e s f g =
       some = omega arith;
     }
 
-sound_value : (n : ℕ) (b : Readers) → SoundReaders n b → (ts : List Token) (a : Values) (us : List Token)
+pub sound_value : (n : ℕ) (b : Readers) → SoundReaders n b → (ts : List Token) (a : Values) (us : List Token)
     → SoundValues n ts a us → HoldsStep (SoundValues n ts) (value_step b a us)
 sound_value n b sb ts a us s = under (take_mark marks.Comma us) (mark_taken marks.Comma us)
   where
@@ -444,7 +444,7 @@ some_arguments : (h : ℕ) (ts : List Token) (r : Reads Values) → Holds (Sound
 some_arguments h ts (Faults deep us) s = tt
 some_arguments h ts (Found values us) s = record { tokens = s.tokens; are = s.are; apart = s.apart; low = s.low }
 
-sound_arguments : (n : ℕ) (b : Readers) → SoundReaders n b → (ts : List Token)
+pub sound_arguments : (n : ℕ) (b : Readers) → SoundReaders n b → (ts : List Token)
     → Holds (SoundArguments n ts) (read_arguments b ts)
 sound_arguments n b sb ts = under (take_mark marks.RightParen ts)
   where
@@ -458,7 +458,7 @@ sound_arguments n b sb ts = under (take_mark marks.RightParen ts)
 
 -- ---- primary
 
-sound_call : (n : ℕ) (b : Readers) → SoundReaders n b → (f : Ident) (ts : List Token)
+pub sound_call : (n : ℕ) (b : Readers) → SoundReaders n b → (f : Ident) (ts : List Token)
     → Holds (Sound 0 (suc n) (ident f.name f.at ∷ ts)) (call_from b f (take_mark marks.LeftParen ts) ts)
 sound_call n b sb f ts = under (take_mark marks.LeftParen ts) (mark_taken marks.LeftParen ts)
   where
@@ -480,7 +480,7 @@ sound_call n b sb f ts = under (take_mark marks.LeftParen ts) (mark_taken marks.
           low = omega (arith, s.low);
         }))
 
-sound_parens : (n : ℕ) (b : Readers) → SoundReaders n b → (o : Span) (ts : List Token)
+pub sound_parens : (n : ℕ) (b : Readers) → SoundReaders n b → (o : Span) (ts : List Token)
     → Holds (Sound 0 (suc n) (mark marks.LeftParen o ∷ ts)) (parenthesised_from b o ts)
 sound_parens n b sb o ts =
     holds_above (Sound 16 n ts) (Sound 0 (suc n) (mark marks.LeftParen o ∷ ts)) 0 b.height _ ts (b.expression ts) _
@@ -496,7 +496,7 @@ sound_parens n b sb o ts =
       low = omega (arith, s.low);
     }))
 
-sound_at : (n : ℕ) (b : Readers) → SoundReaders n b → (kind : TokenKind) (at : Span) (ts : List Token)
+pub sound_at : (n : ℕ) (b : Readers) → SoundReaders n b → (kind : TokenKind) (at : Span) (ts : List Token)
     → (let x : Token = record { kind = kind; at = at } in Holds (Sound 0 (suc n) (x ∷ ts)) (primary_at b kind at ts))
 sound_at n b sb (kinds.Ident name) at ts = sound_call n b sb (record { name = name; at = at }) ts
 sound_at n b sb (kinds.Number value true) at ts = tt
@@ -518,13 +518,13 @@ sound_at n b sb (kinds.Mark m) at ts =
     subst P (sym (mark_is marks.LeftParen (kinds.Mark m) e)) (sound_parens n b sb at ts)))
 sound_at n b sb (kinds.Word w) at ts = tt
 
-sound_primary : (n : ℕ) (b : Readers) → SoundReaders n b → SoundReader 0 (suc n) (read_primary b)
+pub sound_primary : (n : ℕ) (b : Readers) → SoundReaders n b → SoundReader 0 (suc n) (read_primary b)
 sound_primary n b sb [] = tt
 sound_primary n b sb (t ∷ ts) = sound_at n b sb t.kind t.at ts
 
 -- ---- postfix
 
-sound_suffix : (n : ℕ) (b : Readers) → SoundReaders n b → (ts : List Token) (base : Expr) (us : List Token)
+pub sound_suffix : (n : ℕ) (b : Readers) → SoundReaders n b → (ts : List Token) (base : Expr) (us : List Token)
     → Sound 1 (suc n) ts base us → HoldsStep (Sound 1 (suc n) ts) (suffix_step (suc n) b base us)
 sound_suffix n b sb ts base us s = under (take_mark marks.LeftBracket us) (mark_taken marks.LeftBracket us)
   where
@@ -564,7 +564,7 @@ sound_suffix n b sb ts base us s = under (take_mark marks.LeftBracket us) (mark_
           low = omega (arith, g.low, e);
         }))
 
-sound_postfix : (n : ℕ) (b : Readers) → SoundReaders n b → SoundReader 1 (suc n) (read_postfix (suc n) b)
+pub sound_postfix : (n : ℕ) (b : Readers) → SoundReaders n b → SoundReader 1 (suc n) (read_postfix (suc n) b)
 sound_postfix n b sb ts =
     holds_then (Sound 0 (suc n) ts) (Sound 1 (suc n) ts) (read_primary b ts) _ (sound_primary n b sb ts) (λ e us s.
     holds_chain (Sound 1 (suc n) ts) (suffix_step (suc n) b) (λ a vs g. sound_suffix n b sb ts a vs g) (length us) e us
@@ -572,7 +572,7 @@ sound_postfix n b sb ts =
 
 -- ---- unary and cast
 
-sound_unary : (n : ℕ) (b : Readers) → SoundReaders n b → SoundReader 2 (suc n) (read_unary (suc n) b)
+pub sound_unary : (n : ℕ) (b : Readers) → SoundReaders n b → SoundReader 2 (suc n) (read_unary (suc n) b)
 sound_unary n b sb ts = steps (take_step ts) (step_taken ts)
   where
     unaries : (o : Takes (UnaryOp × Span)) → HoldsTaken (λ a us. ts ≡ mark (unary_mark a.0) a.1 ∷ us) o
@@ -601,7 +601,7 @@ sound_unary n b sb ts = steps (take_step ts) (step_taken ts)
           low = omega (arith, s.low);
         })
 
-sound_cast : (n : ℕ) (b : Readers) → SoundReaders n b → SoundReader 3 (suc n) (read_cast (suc n) b)
+pub sound_cast : (n : ℕ) (b : Readers) → SoundReaders n b → SoundReader 3 (suc n) (read_cast (suc n) b)
 sound_cast n b sb ts = under (take_mark marks.LeftParen ts) (mark_taken marks.LeftParen ts)
   where
     plain : Holds (Sound 3 (suc n) ts) (read_unary (suc n) b ts)
@@ -651,40 +651,43 @@ sound_cast n b sb ts = under (take_mark marks.LeftParen ts) (mark_taken marks.Le
 
 -- ---- operators between operands
 
-sound_infix : (k n c : ℕ) (operand right : Reader) → c + 1 ≡ k + 3 → SoundReader c (suc n) operand
+-- one more operator and its right operand
+pub sound_turn : (k n c : ℕ) (right : Reader) → c + 1 ≡ k + 3 → SoundReader c n right → (ts : List Token) (l : Expr)
+    (us : List Token) → Sound (k + 3) (suc n) ts l us
+    → HoldsStep (Sound (k + 3) (suc n) ts) (infix_step k (suc n) right l us)
+sound_turn k n c right sum sr ts l us s = under (take_binary k us) (binary_taken k us)
+  where
+    under : (o : Takes (BinaryOp × Span)) → HoldsTaken
+        (λ a vs. (us ≡ mark (binary_mark a.0) a.1 ∷ vs) × (binary_level a.0 ≡ k)) o
+        → HoldsStep (Sound (k + 3) (suc n) ts) (infix_from (suc n) right l o)
+    under None h = tt
+    under (Some (op, vs)) h =
+        step_above (Sound c n vs) (Sound (k + 3) (suc n) ts) (expr_height l) (suc n) _ vs (right vs) _ (sr vs)
+        (λ r ws e g.
+        record {
+          tokens = s.tokens ∙ (ap (λ zs. expr_tokens l ++ zs)
+              (h.0 ∙ ap (λ zs. mark (binary_mark op.0) op.1 ∷ zs) g.tokens)
+              ∙ sym (append_assoc (expr_tokens l) (mark (binary_mark op.0) op.1 ∷ expr_tokens r) ws));
+          is = (s.is, omega (arith, s.loose, h.1), g.is, omega (arith, g.loose, h.1));
+          loose = omega (arith, h.1);
+          low = omega (arith, g.low, e);
+        })
+
+pub sound_infix : (k n c : ℕ) (operand right : Reader) → c + 1 ≡ k + 3 → SoundReader c (suc n) operand
     → SoundReader c n right → SoundReader (k + 3) (suc n) (read_infix k (suc n) operand right)
 sound_infix k n c operand right sum so sr ts =
     holds_then (Sound c (suc n) ts) (Sound (k + 3) (suc n) ts) (operand ts) _ (so ts) (λ e us s.
-    holds_chain (Sound (k + 3) (suc n) ts) (infix_step k (suc n) right) (λ a vs g. turn a vs g) (length us) e us
+    holds_chain (Sound (k + 3) (suc n) ts) (infix_step k (suc n) right)
+    (λ a vs g. sound_turn k n c right sum sr ts a vs g) (length us) e us
     (looser c (k + 3) (suc n) ts e us (omega arith) s))
-  where
-    turn : (l : Expr) (us : List Token) → Sound (k + 3) (suc n) ts l us
-        → HoldsStep (Sound (k + 3) (suc n) ts) (infix_step k (suc n) right l us)
-    turn l us s = under (take_binary k us) (binary_taken k us)
-      where
-        under : (o : Takes (BinaryOp × Span)) → HoldsTaken
-            (λ a vs. (us ≡ mark (binary_mark a.0) a.1 ∷ vs) × (binary_level a.0 ≡ k)) o
-            → HoldsStep (Sound (k + 3) (suc n) ts) (infix_from (suc n) right l o)
-        under None h = tt
-        under (Some (op, vs)) h =
-            step_above (Sound c n vs) (Sound (k + 3) (suc n) ts) (expr_height l) (suc n) _ vs (right vs) _ (sr vs)
-            (λ r ws e g.
-            record {
-              tokens = s.tokens ∙ (ap (λ zs. expr_tokens l ++ zs)
-                  (h.0 ∙ ap (λ zs. mark (binary_mark op.0) op.1 ∷ zs) g.tokens)
-                  ∙ sym (append_assoc (expr_tokens l) (mark (binary_mark op.0) op.1 ∷ expr_tokens r) ws));
-              is = (s.is, omega (arith, s.loose, h.1), g.is, omega (arith, g.loose, h.1));
-              loose = omega (arith, h.1);
-              low = omega (arith, g.low, e);
-            })
 
-sound_binary : (n : ℕ) (b : Readers) → SoundReaders n b → (k : ℕ) → k ≤ 10
+pub sound_binary : (n : ℕ) (b : Readers) → SoundReaders n b → (k : ℕ) → k ≤ 10
     → SoundReader (k + 3) (suc n) (read_binary (suc n) b k)
 sound_binary n b sb zero h = sound_cast n b sb
 sound_binary n b sb (suc k) h = sound_infix (suc k) n (k + 3) (read_binary (suc n) b k) (b.binary k) (omega arith)
     (sound_binary n b sb k (omega arith)) (sb.binary k (omega arith))
 
-sound_conditional : (n : ℕ) (b : Readers) → SoundReaders n b → SoundReader 14 (suc n) (read_conditional (suc n) b)
+pub sound_conditional : (n : ℕ) (b : Readers) → SoundReaders n b → SoundReader 14 (suc n) (read_conditional (suc n) b)
 sound_conditional n b sb ts =
     holds_then (Sound 13 (suc n) ts) (Sound 14 (suc n) ts) (read_binary (suc n) b 10 ts) _
     (sound_binary n b sb 10 (omega arith) ts)
@@ -712,7 +715,7 @@ sound_conditional n b sb ts =
           low = omega (arith, g.low, j.low, e);
         }))))
 
-sound_assignment : (n : ℕ) (b : Readers) → SoundReaders n b → SoundReader 15 (suc n) (read_assignment (suc n) b)
+pub sound_assignment : (n : ℕ) (b : Readers) → SoundReaders n b → SoundReader 15 (suc n) (read_assignment (suc n) b)
 sound_assignment n b sb ts =
     holds_then (Sound 14 (suc n) ts) (Sound 15 (suc n) ts) (read_conditional (suc n) b ts) _
     (sound_conditional n b sb ts) (λ l us s. under l us s (take_assign us) (assign_taken us))
@@ -739,7 +742,7 @@ sound_assignment n b sb ts =
           low = omega (arith, g.low, e);
         }))
 
-sound_expression : (n : ℕ) (b : Readers) → SoundReaders n b → SoundReader 16 (suc n) (read_expression (suc n) b)
+pub sound_expression : (n : ℕ) (b : Readers) → SoundReaders n b → SoundReader 16 (suc n) (read_expression (suc n) b)
 sound_expression n b sb = sound_infix 13 n 15 (read_assignment (suc n) b) b.assignment refl (sound_assignment n b sb)
     sb.assignment
 

@@ -26,7 +26,7 @@ use Rattle.c_syntax.specs.DeclarationTokens.{maybe_expr_height, maybe_array_heig
 use Rattle.c_syntax.specs.DeclarationTokens.{initialiser_height, value_height, item_height, declaration_height}
 use Rattle.c_syntax.specs.DeclarationTokens.{IsMaybeConditional, IsMaybeArray, IsParameter, IsPart, IsInitialiser}
 use Rattle.c_syntax.specs.DeclarationTokens.{IsMaybeValue, IsItem, AreItems, IsDeclaration}
-use Rattle.c_fault_places.specs.Chains.{Step, Takes, Reads, Found, Faults, chained}
+use Rattle.c_fault_places.specs.Chains.{Takes, Reads, Found, Faults}
 use Rattle.c_grammar.specs.Taking.{take_mark, take_specifiers, take_pointer}
 use Rattle.c_fault_places.specs.Taking.{read_mark}
 use Rattle.c_fault_places.specs.Reading.{Reader, Readers, Values}
@@ -63,7 +63,7 @@ followed_push tokens (y ∷ ys) (c ∷ cs) x at e =
     ∙ ap (λ ts. mark marks.Comma c ∷ ts) (sym
     (append_assoc (tokens y) (followed tokens ys cs) (mark marks.Comma at ∷ tokens x)))
 
-list_push : {A : Type 0} (tokens : A → List Token) (P : A → Type 0) (ts : List Token) (xs : List A) (commas : List Span)
+pub list_push : {A : Type 0} (tokens : A → List Token) (P : A → Type 0) (ts : List Token) (xs : List A) (commas : List Span)
     (us vs ws : List Token) (at : Span) (x : A) →
     SoundList tokens P ts (xs, commas) us → us ≡ mark marks.Comma at ∷ vs → vs ≡ tokens x ++ ws → P x
     → SoundList tokens P ts (xs ++ x ∷ [], commas ++ at ∷ []) ws
@@ -84,28 +84,32 @@ list_push tokens P ts (y ∷ ys) commas us vs ws at x s f g p =
 abbrev pub One : {A : Type 0} → (A → List Token) → (A → Type 0) → List Token → A → List Token → Type 0
 One tokens P ts x us = (ts ≡ tokens x ++ us) × P x
 
-sound_more : {A : Type 0} (tokens : A → List Token) (P : A → Type 0) (read : List Token → Reads A)
+pub list_keeps : {A : Type 0} (tokens : A → List Token) (P : A → Type 0) (read : List Token → Reads A)
+    → ((ts : List Token) → Holds (One tokens P ts) (read ts)) → (ts : List Token) (l : Listed A) (vs : List Token)
+    → SoundList tokens P ts l vs → (o : Takes Span) → HoldsTaken (λ at ws. vs ≡ mark marks.Comma at ∷ ws) o
+    → HoldsStep (SoundList tokens P ts) (list_at read l o)
+list_keeps tokens P read sound ts l vs s None h = tt
+list_keeps tokens P read sound ts l vs s (Some (at, ws)) h =
+    step_then (One tokens P ws) (SoundList tokens P ts) (read ws) _ (sound ws)
+    (λ y xs g. list_push tokens P ts l.0 l.1 vs ws xs at y s h g.0 g.1)
+
+pub sound_more : {A : Type 0} (tokens : A → List Token) (P : A → Type 0) (read : List Token → Reads A)
     → ((ts : List Token) → Holds (One tokens P ts) (read ts)) → (ts : List Token) (x : A) (us : List Token)
     → One tokens P ts x us → Holds (SoundList tokens P ts) (read_more read x us)
-sound_more {A} tokens P read sound ts x us one =
+sound_more tokens P read sound ts x us one =
     holds_chain (SoundList tokens P ts) (list_step read)
-    (λ l vs s. turn l vs s (take_mark marks.Comma vs) (mark_taken marks.Comma vs)) (length us) (x ∷ [], []) us
+    (λ l vs s. list_keeps tokens P read sound ts l vs s (take_mark marks.Comma vs) (mark_taken marks.Comma vs))
+    (length us) (x ∷ [], []) us
     (record {
       tokens_are = one.0 ∙ ap (λ zs. zs ++ us) (sym (append-nil (tokens x)));
       all = (one.1, tt);
       apart = refl;
       some = omega arith;
     })
-  where
-    turn : (l : Listed A) (vs : List Token) → SoundList tokens P ts l vs → (o : Takes Span)
-        → HoldsTaken (λ at ws. vs ≡ mark marks.Comma at ∷ ws) o → HoldsStep (SoundList tokens P ts) (list_at read l o)
-    turn l vs s None h = tt
-    turn l vs s (Some (at, ws)) h = step_then (One tokens P ws) (SoundList tokens P ts) (read ws) _ (sound ws)
-        (λ y xs g. list_push tokens P ts l.0 l.1 vs ws xs at y s h g.0 g.1)
 
 -- ---- declarators
 
-name_taken : (ts : List Token) → ts ≡ maybe_name_tokens (take_name ts).0 ++ (take_name ts).1
+pub name_taken : (ts : List Token) → ts ≡ maybe_name_tokens (take_name ts).0 ++ (take_name ts).1
 name_taken [] = refl
 name_taken (t ∷ ts) = by_kind t.kind t.at
   where
@@ -136,14 +140,14 @@ sound_maybe c h read sound m ts = under (take_mark m ts)
     under None = holds_then (Sound c h ts) (SoundMaybe c h ts) (read ts) _ (sound ts)
         (λ e us s. record { tokens = s.tokens; fits = (s.is, s.loose); low = s.low })
 
-conditional_is : (e : Option Expr) → MaybeIs 14 e → IsMaybeConditional e
+pub conditional_is : (e : Option Expr) → MaybeIs 14 e → IsMaybeConditional e
 conditional_is None is = tt
 conditional_is (Some e) is = is
 
-abbrev IsLowArray : ℕ → ArrayTree → Type 0
+abbrev pub IsLowArray : ℕ → ArrayTree → Type 0
 IsLowArray h a = IsMaybeConditional a.size × (maybe_expr_height a.size ≤ h)
 
-sound_array : (n : ℕ) (b : Readers) → SoundReaders n b → (o : Span) (ts : List Token)
+pub sound_array : (n : ℕ) (b : Readers) → SoundReaders n b → (o : Span) (ts : List Token)
     → Holds (One array_tokens (IsLowArray n) (mark marks.LeftBracket o ∷ ts)) (array_behind b o ts)
 sound_array n b sb o ts =
     holds_then (SoundMaybe 14 n ts) (One array_tokens (IsLowArray n) (mark marks.LeftBracket o ∷ ts))
@@ -158,10 +162,10 @@ sound_array n b sb o ts =
       (conditional_is size s.fits, s.low),
     )))
 
-abbrev IsLowMaybeArray : ℕ → Option ArrayTree → Type 0
+abbrev pub IsLowMaybeArray : ℕ → Option ArrayTree → Type 0
 IsLowMaybeArray h a = IsMaybeArray a × (maybe_array_height a ≤ h)
 
-sound_maybe_array : (n : ℕ) (b : Readers) → SoundReaders n b → (ts : List Token)
+pub sound_maybe_array : (n : ℕ) (b : Readers) → SoundReaders n b → (ts : List Token)
     → Holds (One maybe_array_tokens (IsLowMaybeArray n) ts) (read_maybe_array b ts)
 sound_maybe_array n b sb ts = under (take_mark marks.LeftBracket ts) (mark_taken marks.LeftBracket ts)
   where
@@ -173,10 +177,10 @@ sound_maybe_array n b sb ts = under (take_mark marks.LeftBracket ts) (mark_taken
         (One maybe_array_tokens (IsLowMaybeArray n) ts) (array_behind b o us) _ (sound_array n b sb o us)
         (λ a vs g. (h ∙ g.0, g.1))
 
-abbrev IsLowParameter : ℕ → ParameterTree → Type 0
+abbrev pub IsLowParameter : ℕ → ParameterTree → Type 0
 IsLowParameter h p = IsParameter p × (parameter_height p ≤ h)
 
-sound_parameter : (n : ℕ) (b : Readers) → SoundReaders n b → (ts : List Token)
+pub sound_parameter : (n : ℕ) (b : Readers) → SoundReaders n b → (ts : List Token)
     → Holds (One parameter_tokens (IsLowParameter n) ts) (read_parameter b ts)
 sound_parameter n b sb ts = under (take_specifiers ts).0 (take_specifiers ts).1 (specifiers_taken ts)
   where
@@ -199,20 +203,20 @@ sound_parameter n b sb ts = under (take_specifiers ts).0 (take_specifiers ts).1 
         )))
 
 -- elements that are so high at most
-all_low : {A : Type 0} (P : A → Type 0) (height : A → ℕ) (h : ℕ) (xs : List A)
+pub all_low : {A : Type 0} (P : A → Type 0) (height : A → ℕ) (h : ℕ) (xs : List A)
     → AllByRecursion (λ x. P x × (height x ≤ h)) xs → AllByRecursion P xs × (greatest height xs ≤ h)
 all_low P height h [] all = (tt, omega arith)
 all_low P height h (x ∷ xs) all = (let r = all_low P height h xs all.1 in ((all.0.0, r.0), omega (arith, all.0.1, r.1)))
 
-abbrev IsLowPart : ℕ → PartTree → Type 0
+abbrev pub IsLowPart : ℕ → PartTree → Type 0
 IsLowPart h part = IsPart part × (part_height part ≤ h)
 
 -- the parameters of a function
-record SoundParameters (h : ℕ) (ts : List Token) (l : Listed ParameterTree) (us : List Token) : Type 0 where
-  tokens_are : ts ≡ separated parameter_tokens l.0 l.1 ++ us
-  all : AllByRecursion IsParameter l.0
-  low : greatest parameter_height l.0 ≤ h
-  apart : AreApart l.0 l.1
+pub record SoundParameters (h : ℕ) (ts : List Token) (l : Listed ParameterTree) (us : List Token) : Type 0 where
+  pub tokens_are : ts ≡ separated parameter_tokens l.0 l.1 ++ us
+  pub all : AllByRecursion IsParameter l.0
+  pub low : greatest parameter_height l.0 ≤ h
+  pub apart : AreApart l.0 l.1
 
 some_parameters : (h : ℕ) (ts : List Token) (r : Reads (Listed ParameterTree))
     → Holds (SoundList parameter_tokens (IsLowParameter h) ts) r → Holds (SoundParameters h ts) r
@@ -220,7 +224,7 @@ some_parameters h ts (Faults deep us) s = tt
 some_parameters h ts (Found l us) s = (let r = all_low IsParameter parameter_height h l.0 s.all in
     record { tokens_are = s.tokens_are; all = r.0; low = r.1; apart = s.apart })
 
-sound_parameters : (n : ℕ) (b : Readers) → SoundReaders n b → (ts : List Token)
+pub sound_parameters : (n : ℕ) (b : Readers) → SoundReaders n b → (ts : List Token)
     → Holds (SoundParameters n ts) (read_parameters b ts)
 sound_parameters n b sb ts = under (take_mark marks.RightParen ts)
   where
@@ -232,7 +236,7 @@ sound_parameters n b sb ts = under (take_mark marks.RightParen ts)
         some_parameters n ts (read_more (read_parameter b) p us)
         (sound_more parameter_tokens (IsLowParameter n) (read_parameter b) (sound_parameter n b sb) ts p us g))
 
-sound_part : (n : ℕ) (b : Readers) → SoundReaders n b → (ts : List Token)
+pub sound_part : (n : ℕ) (b : Readers) → SoundReaders n b → (ts : List Token)
     → Holds (One part_tokens (IsLowPart n) ts) (read_part b ts)
 sound_part n b sb ts = brackets (take_mark marks.LeftBracket ts) (mark_taken marks.LeftBracket ts)
   where
@@ -284,14 +288,14 @@ sound_declarator n b sb ts = under (take_pointer ts).0 (take_pointer ts).1 (take
 -- ---- initialisers
 
 -- values in braces, with the comma behind the last of them
-record SoundBraced (h : ℕ) (ts : List Token) (braced : Braced) (us : List Token) : Type 0 where
-  tokens : ts ≡ (exprs_tokens (exprs_of braced.0.0) braced.0.1 ++ maybe_comma_tokens braced.1) ++ us
-  are : AreValues (exprs_of braced.0.0)
-  apart : Separate (exprs_of braced.0.0) braced.0.1
-  low : exprs_height (exprs_of braced.0.0) ≤ h
-  some : 1 ≤ length braced.0.0
+pub record SoundBraced (h : ℕ) (ts : List Token) (braced : Braced) (us : List Token) : Type 0 where
+  pub tokens : ts ≡ (exprs_tokens (exprs_of braced.0.0) braced.0.1 ++ maybe_comma_tokens braced.1) ++ us
+  pub are : AreValues (exprs_of braced.0.0)
+  pub apart : Separate (exprs_of braced.0.0) braced.0.1
+  pub low : exprs_height (exprs_of braced.0.0) ≤ h
+  pub some : 1 ≤ length braced.0.0
 
-without_comma : (h : ℕ) (ts : List Token) (values : Values) (us : List Token) → SoundValues h ts values us
+pub without_comma : (h : ℕ) (ts : List Token) (values : Values) (us : List Token) → SoundValues h ts values us
     → SoundBraced h ts (values, None) us
 without_comma h ts values us s =
     record {
@@ -302,7 +306,7 @@ without_comma h ts values us s =
       some = s.some;
     }
 
-only_values : (h : ℕ) (ts : List Token) (values : Values) (us : List Token) → SoundBraced h ts (values, None) us
+pub only_values : (h : ℕ) (ts : List Token) (values : Values) (us : List Token) → SoundBraced h ts (values, None) us
     → SoundValues h ts values us
 only_values h ts values us s =
     record {
@@ -325,7 +329,7 @@ with_comma h ts values us vs at s e =
       some = s.some;
     })
 
-sound_brace : (n : ℕ) (b : Readers) → SoundReaders n b → (ts : List Token) (values : Values) (trailing : Option Span)
+pub sound_brace : (n : ℕ) (b : Readers) → SoundReaders n b → (ts : List Token) (values : Values) (trailing : Option Span)
     (us : List Token) → SoundBraced n ts (values, trailing) us
     → HoldsStep (SoundBraced n ts) (brace_behind b values trailing us)
 sound_brace n b sb ts values (Some trailing) us s = tt
@@ -346,22 +350,22 @@ sound_brace n b sb ts values None us braced = under (take_mark marks.Comma us) (
     under None h = tt
     under (Some (at, vs)) h = closes at vs h (take_mark marks.RightBrace vs)
 
-sound_values : (n : ℕ) (b : Readers) → SoundReaders n b → (ts : List Token)
+pub sound_values : (n : ℕ) (b : Readers) → SoundReaders n b → (ts : List Token)
     → Holds (SoundBraced n ts) (read_values b ts)
 sound_values n b sb ts = holds_then (Sound 15 n ts) (SoundBraced n ts) (b.assignment ts) _ (sb.assignment ts) (λ e us s.
     holds_chain (SoundBraced n ts) (brace_step b) (λ a ws g. sound_brace n b sb ts a.0 a.1 ws g) (length us)
     ((e ∷ [], []), None) us (without_comma n ts (e ∷ [], []) us (first_value n ts e us s)))
 
-abbrev IsLowInitialiser : ℕ → InitialiserTree → Type 0
+abbrev pub IsLowInitialiser : ℕ → InitialiserTree → Type 0
 IsLowInitialiser h i = IsInitialiser i × (initialiser_height i ≤ h)
 
-braces_are : (n : ℕ) (o : Span) (es : List Expr) (commas : List Span) (trailing : Option Span) (c : Span)
+pub braces_are : (n : ℕ) (o : Span) (es : List Expr) (commas : List Span) (trailing : Option Span) (c : Span)
     → 1 ≤ length es → AreValues (exprs_of es) → Separate (exprs_of es) commas → exprs_height (exprs_of es) ≤ n
     → IsLowInitialiser n (Braces o (exprs_of es) commas trailing c)
 braces_are n o [] commas trailing c some are apart low = absurd (omega arith)
 braces_are n o (e ∷ es) commas trailing c some are apart low = ((are, apart), low)
 
-sound_initialiser : (n : ℕ) (b : Readers) → SoundReaders n b → (ts : List Token)
+pub sound_initialiser : (n : ℕ) (b : Readers) → SoundReaders n b → (ts : List Token)
     → Holds (One initialiser_tokens (IsLowInitialiser n) ts) (read_initialiser b ts)
 sound_initialiser n b sb ts = under (take_mark marks.LeftBrace ts) (mark_taken marks.LeftBrace ts)
   where
@@ -386,10 +390,10 @@ sound_initialiser n b sb ts = under (take_mark marks.LeftBrace ts) (mark_taken m
 
 -- ---- items and declarations
 
-abbrev IsLowValue : ℕ → Option ValueTree → Type 0
+abbrev pub IsLowValue : ℕ → Option ValueTree → Type 0
 IsLowValue h v = IsMaybeValue v × (value_height v ≤ h)
 
-sound_value_part : (n : ℕ) (b : Readers) → SoundReaders n b → (ts : List Token)
+pub sound_value_part : (n : ℕ) (b : Readers) → SoundReaders n b → (ts : List Token)
     → Holds (One value_tokens (IsLowValue n) ts) (value_from b (take_mark marks.Equal ts) ts)
 sound_value_part n b sb ts = under (take_mark marks.Equal ts) (mark_taken marks.Equal ts)
   where
@@ -400,10 +404,10 @@ sound_value_part n b sb ts = under (take_mark marks.Equal ts) (mark_taken marks.
         holds_above (One initialiser_tokens (IsLowInitialiser n) us) (One value_tokens (IsLowValue n) ts) 0 b.height _ us
         (read_initialiser b us) _ (sound_initialiser n b sb us) (λ v vs some g. (h ∙ ap (λ zs. mark marks.Equal at ∷ zs) g.0, g.1))
 
-abbrev IsLowItem : ℕ → ItemTree → Type 0
+abbrev pub IsLowItem : ℕ → ItemTree → Type 0
 IsLowItem h i = IsItem i × (item_height i ≤ h)
 
-sound_item_behind : (n : ℕ) (b : Readers) → SoundReaders n b → (ts : List Token) (d : DeclaratorTree) (us : List Token)
+pub sound_item_behind : (n : ℕ) (b : Readers) → SoundReaders n b → (ts : List Token) (d : DeclaratorTree) (us : List Token)
     → One declarator_tokens (IsLowDeclarator n) ts d us → Holds (One item_tokens (IsLowItem n) ts) (item_behind b d us)
 sound_item_behind n b sb ts d us s =
     holds_then (One value_tokens (IsLowValue n) us) (One item_tokens (IsLowItem n) ts)
@@ -412,7 +416,7 @@ sound_item_behind n b sb ts d us s =
       ((s.1.0, g.1.0), omega (arith, s.1.1, g.1.1)),
     ))
 
-sound_item : (n : ℕ) (b : Readers) → SoundReaders n b → (ts : List Token)
+pub sound_item : (n : ℕ) (b : Readers) → SoundReaders n b → (ts : List Token)
     → Holds (One item_tokens (IsLowItem n) ts) (read_item b ts)
 sound_item n b sb ts = holds_then (One declarator_tokens (IsLowDeclarator n) ts) (One item_tokens (IsLowItem n) ts)
     (read_declarator b ts) _ (sound_declarator n b sb ts) (λ d us s. sound_item_behind n b sb ts d us s)
@@ -420,7 +424,7 @@ sound_item n b sb ts = holds_then (One declarator_tokens (IsLowDeclarator n) ts)
 abbrev pub IsLowDeclaration : ℕ → DeclarationTree → Type 0
 IsLowDeclaration h d = IsDeclaration d × (declaration_height d ≤ h)
 
-items_are : (is : List ItemTree) → 1 ≤ length is → AllByRecursion IsItem is → AreItems is
+pub items_are : (is : List ItemTree) → 1 ≤ length is → AllByRecursion IsItem is → AreItems is
 items_are [] some all = absurd (omega arith)
 items_are (i ∷ is) some all = all
 

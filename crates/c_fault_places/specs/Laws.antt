@@ -1,5 +1,5 @@
 -- What is said of each reading: what its answer rests on, and what more height changes.
-use Rattle.std.specs.Prelude.{◌≡◌, ℕ, ◌<◌, Bool, true, false, List, [], ◌∷◌, ◌++◌, length}
+use Rattle.std.specs.Prelude.{◌≡◌, ◌<◌, true, false, List, [], ◌∷◌, ◌++◌, length}
 use Rattle.c_lex.specs.declared.token.Token.{Token}
 use Rattle.c_fault_places.specs.Chains.{Reads, Found, Faults}
 

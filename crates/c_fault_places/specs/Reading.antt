@@ -17,7 +17,7 @@ use Rattle.c_syntax.specs.Marks.{mark, word, binary_mark, unary_mark, step_mark,
 use Rattle.c_syntax.specs.Expressions.{Star, Expr, exprs_of, Identifier, Number, Text, Parenthesised, Call, Index}
 use Rattle.c_syntax.specs.Expressions.{Postfix, Prefix, Unary, Cast, Binary, Conditional, Assignment}
 use Rattle.c_syntax.specs.ExpressionTokens.{expr_height, looseness}
-use Rattle.c_fault_places.specs.Chains.{Step, Done, Fails, Goes, Takes, Reads, Found, Faults, then_read, then_step, above}
+use Rattle.c_fault_places.specs.Chains.{Step, Done, Goes, Takes, Reads, Found, Faults, then_read, then_step, above}
 use Rattle.c_fault_places.specs.Chains.{room, chained}
 use Rattle.c_grammar.specs.Heads.{begins}
 use Rattle.c_grammar.specs.Taking.{is_mark, take_mark, take_unary, take_step, take_assign, take_binary, take_texts}

@@ -4,4 +4,7 @@
 
 mod laws;
 
-pub use laws::{read_trees, readings_are_prompt};
+pub use laws::{
+    faults_begin_programs, faults_of_height_move_on, faults_stand_there, read_trees,
+    readings_are_prompt,
+};
