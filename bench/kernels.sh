@@ -56,7 +56,7 @@ def executed(path, *flags):
 
 def executed_at(path):
     """How often the instruction at each address of the executable is met."""
-    counts, is_inclusive, name = collections.Counter(), False, f"{ROOM}/counts"
+    counts, is_inclusive, name = collections.Counter(), False, f"{ROOM}/executed.out"
     executed(path, "--dump-instr=yes", "--compress-pos=no", f"--callgrind-out-file={name}")
     with open(name, encoding="ascii", errors="replace") as file:
         for line in file:
