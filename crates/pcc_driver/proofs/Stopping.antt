@@ -1,16 +1,13 @@
 -- A compiled image never stops: it ends as the graphs do, none of whose steps ends in a stop.
-use Rattle.std.proofs.Common.{◌≡◌, ◌≤◌, ◌+◌, ◌-◌, ℕ, zero, suc, ℤ, List, [], ◌∷◌, Bool, true, false, Option, Some, None}
-use Rattle.std.proofs.Common.{refl, sym, ap, ◌∙◌, subst, arith}
+use Rattle.std.proofs.Common.{◌≡◌, ◌+◌, ◌-◌, ℕ, zero, suc, ℤ, List, [], ◌∷◌, Bool, true, false, Option, Some, None}
+use Rattle.std.proofs.Common.{sym, ap, ◌∙◌, subst, arith}
 use Rattle.std.specs.Prelude.{◌==◌, ◌++◌, ⊤, pos, negsuc, length, replicate, slice_get, option_map, nat_le}
 use Rattle.std.specs.Prelude.{if◌then◌else◌}
-use Rattle.pcc_base.specs.Bytes.{AreBytes}
 use Rattle.pcc_base.specs.Outcome as outcome
 use Rattle.pcc_base.specs.Outcome.{End, Listing, Outcome, Visit, after_visits, Value, Number, ArrayName, Null, Static}
 use Rattle.pcc_base.specs.Outcome.{InFrame, Unknown}
-use Rattle.pcc_base.specs.declared.run.Stop.{Stop}
 use Rattle.c_tree.specs.Program.{Program}
 use Rattle.c_tree.specs.Evaluation.{source_outcome}
-use Rattle.c_tree.specs.WellTyped.{WellTyped}
 use Rattle.pcc_base.specs.declared.run.Trap.TheVariants.{Check}
 use Rattle.flow_graph.specs.declared.op.Bits.{Bits}
 use Rattle.flow_graph.specs.declared.op.Op.{Op}
@@ -22,7 +19,7 @@ use Rattle.flow_graph.specs.Meaning.{one_number, comparison, bytes_of, enters, v
 use Rattle.flow_graph.specs.Meaning.{low_byte, stored}
 use Rattle.flow_graph.specs.States.{with_array, with_element}
 use Rattle.flow_graph.specs.declared.op.Comparison.TheVariants.{Eq}
-use Rattle.flow_graph.specs.Running.{GraphOutcome, outcome_at, outcome_from, run_within, takes_turn, visits_at}
+use Rattle.flow_graph.specs.Running.{GraphOutcome, outcome_from, run_within, takes_turn, visits_at}
 use Rattle.flow_graph.specs.Running.{with_turn}
 use Rattle.flow_graph.specs.Shapes.{Leads, Onward, IntoCall, ToBlock, ToEither, OutOfCall, OutOfProgram, shape}
 use Rattle.flow_graph.specs.States.{GraphProgram, State, Waiting, Elements, op_at, op_of, entry_of, point_after}
@@ -32,12 +29,9 @@ use Rattle.lower_lines.specs.Shown.{ListsLocals, variables_shown}
 use Rattle.ia32_insn.specs.State as machine
 use Rattle.ia32_insn.specs.Runs.{Runs, no_visits}
 use Rattle.ia32_insn.proofs.Runs.{run_once, runs_more}
-use Rattle.ia32_machine.specs.First.{First}
 use Rattle.ia32_machine.proofs.First.{first-one}
 use Rattle.map_lines.specs.MapLaws.{MapListsLocals}
-use Rattle.map_text.specs.Maps.{Map}
 use Rattle.map_text.specs.Marks.{listed, visits_of}
-use Rattle.pcc_program.specs.Products.{IsImageOf}
 use Rattle.pcc_driver.specs.Stops.{ImagesNeverStop}
 use Rattle.pcc_driver.proofs.OneEnd.{unseen}
 
