@@ -7,12 +7,16 @@ import glob
 import os
 import shutil
 import subprocess
+import sys
 import tempfile
 import unittest
 
 TOP = os.path.dirname(os.path.dirname(os.path.abspath(__file__)))
+sys.path.insert(0, f"{TOP}/tools")
+
+from present import wants_gcc, wants_kernel, wants_pcc, wants_preprocessor  # noqa: E402
+
 PCC = os.environ.get("PCC", f"{TOP}/bin/pcc")
-IS_BUILT = "PCC" in os.environ or os.path.exists(f"{TOP}/crates/pcc/out/pcc")
 
 # The statuses that aren't 0.
 STATUSES = {
@@ -43,20 +47,33 @@ class Examples(unittest.TestCase):
             self.assertEqual(done.returncode, STATUSES.get(name, 0), name)
         return done
 
-    @unittest.skipUnless(shutil.which("gcc"), "left out: gcc isn't on this machine")
+    @wants_gcc
     def test_by_gcc(self):
         for name in examples():
             with self.subTest(name):
                 subprocess.run(["gcc", "-w", "-fsigned-char", "-fwrapv", "-o", f"{self.room}/{name}", f"{TOP}/examples/{name}.c"], check=True)
                 self.check(name, [f"{self.room}/{name}"])
 
-    @unittest.skipUnless(IS_BUILT, "left out: bin/pcc isn't built")
+    def compiled(self, name):
+        """The image of an example."""
+        image = f"{self.room}/{name}"
+        subprocess.run([f"{TOP}/bin/pcc-cc", "-o", image, f"{TOP}/examples/{name}.c"], env={**os.environ, "PCC": PCC}, check=True)
+        return image
+
+    @wants_pcc
+    @wants_preprocessor
+    @wants_kernel
+    def test_on_the_kernel(self):
+        for name in examples():
+            with self.subTest(name):
+                self.check(name, [self.compiled(name)])
+
+    @wants_pcc
+    @wants_preprocessor
     def test_by_pcc(self):
         for name in examples():
             with self.subTest(name):
-                image = f"{self.room}/{name}"
-                subprocess.run([f"{TOP}/bin/pcc-cc", "-o", image, f"{TOP}/examples/{name}.c"], env={**os.environ, "PCC": PCC}, check=True)
-                self.check(name, [image])
+                image = self.compiled(name)
                 done = self.check(name, [PCC, "run", "--", image], given=False)
                 self.assertEqual(done.stderr, f"exit {STATUSES.get(name, 0)}\n".encode(), name)
                 audit = subprocess.run([f"{TOP}/tools/audit-map", f"{image}.map", image], capture_output=True, text=True, check=False)

@@ -3,12 +3,16 @@ import os
 import re
 import shutil
 import subprocess
+import sys
 import tempfile
 import unittest
 
 TOP = os.path.dirname(os.path.dirname(os.path.abspath(__file__)))
+sys.path.insert(0, f"{TOP}/tools")
+
+from present import debugs_images, wants, wants_pcc, wants_preprocessor  # noqa: E402
+
 PCC = os.environ.get("PCC", f"{TOP}/bin/pcc")
-IS_BUILT = "PCC" in os.environ or os.path.exists(f"{TOP}/crates/pcc/out/pcc")
 SOURCE = f"{TOP}/tools/debugged.c"
 
 
@@ -18,8 +22,9 @@ def line_of(text):
         return next(k for k, row in enumerate(file, 1) if text in row)
 
 
-@unittest.skipUnless(IS_BUILT, "left out: bin/pcc isn't built")
-@unittest.skipUnless(shutil.which("gdb"), "left out: gdb isn't on this machine")
+@wants_pcc
+@wants_preprocessor
+@wants(debugs_images(), "gdb isn't on this machine, or runs no executables for i386")
 class Debugging(unittest.TestCase):
     @classmethod
     def setUpClass(cls):

@@ -16,9 +16,9 @@ import graphs  # noqa: E402
 import machine  # noqa: E402
 import maps  # noqa: E402
 import statements  # noqa: E402
+from present import wants_kernel, wants_pcc, wants_preprocessor, wants_tool  # noqa: E402
 
 PCC = os.environ.get("PCC", f"{TOP}/bin/pcc")
-IS_BUILT = "PCC" in os.environ or os.path.exists(f"{TOP}/crates/pcc/out/pcc")
 
 SMALL = """pcc map 1
 object 0 0804a008 4 1
@@ -159,7 +159,8 @@ CHANGES = (
 )
 
 
-@unittest.skipUnless(IS_BUILT, "left out: bin/pcc isn't built")
+@wants_pcc
+@wants_preprocessor
 class Programs(unittest.TestCase):
     @classmethod
     def setUpClass(cls):
@@ -197,10 +198,14 @@ class Programs(unittest.TestCase):
         self.assertEqual(ops, {*maps.OPS, "call", "return"})
         with open(image, "rb") as file:
             self.assertRegex(tool("audit-map").audit(text, file.read()), r"\d+ points")
+
+    @wants_kernel
+    def test_every_op_is_run(self):
+        image, _ = self.compiled("tools/every_op.c")
         done = subprocess.run([image], input=b"", capture_output=True, check=False)
         self.assertEqual((done.stdout, done.returncode), (b"acbacb:\n", 37))
 
-    @unittest.skipUnless(shutil.which("objdump"), "left out: objdump isn't on this machine")
+    @wants_tool("objdump")
     def test_instructions_begin_where_objdump_has_them(self):
         with open(self.image, "rb") as file:
             image = file.read()

@@ -4,10 +4,14 @@ import resource
 import shutil
 import stat
 import subprocess
+import sys
 import tempfile
 import unittest
 
 TOP = os.path.dirname(os.path.dirname(os.path.abspath(__file__)))
+sys.path.insert(0, f"{TOP}/tools")
+
+from present import wants_own_pcc, wants_pcc, wants_preprocessor  # noqa: E402
 
 # A file, where its fault is told, the fault, and words of the sentence.
 MISTAKES = (
@@ -72,6 +76,7 @@ MACROS = "#define TWICE(x) ((x) + (x))\nint main(void)\n{\n    int   one = 1; /*
 FIRST = '#include <stdio.h>\n\nint main(void)\n{\n    int c;\n\n    while ((c = getchar()) != EOF)\n        putchar(c);\n    return 0;\n}\n'
 
 
+@wants_pcc
 class Compiling(unittest.TestCase):
     def setUp(self):
         self.room = tempfile.mkdtemp(prefix="pcc-cc-test-")
@@ -93,6 +98,7 @@ class Compiling(unittest.TestCase):
                 self.assertIn(words, first)
                 self.assertEqual(sorted(os.listdir(self.room)), ["a.c"])
 
+    @wants_preprocessor
     def test_mistakes_are_told_at_their_place(self):
         self.expect(MISTAKES)
 
@@ -104,15 +110,18 @@ class Compiling(unittest.TestCase):
             os.symlink(shutil.which(name), f"{folder}/{name}")
         self.expect(PLAIN, path=folder)
 
+    @wants_preprocessor
     def test_mark_stands_under_the_token_that_was_written(self):
         lines = self.call(MACROS).stderr.split("\n")
         self.assertEqual(lines[1][8:], MACROS.split("\n")[3])
         self.assertEqual(lines[2].index("^") - 8, MACROS.split("\n")[3].index("three"))
 
+    @wants_preprocessor
     def test_mark_stands_under_the_letter_behind_others(self):
         lines = self.call('int main(void)\n{\n    char s[9] = "\u00f6\u00f6"; three();\n    return 0;\n}\n').stderr.split("\n")
         self.assertEqual(lines[2].index("^"), lines[1].index("three"))
 
+    @wants_preprocessor
     def test_image_is_executable_and_has_its_map(self):
         done = self.call(FIRST, "-o", "copy")
         self.assertEqual((done.returncode, done.stderr), (0, ""))
@@ -121,6 +130,7 @@ class Compiling(unittest.TestCase):
         with open(f"{self.room}/copy.map", encoding="ascii") as file:
             self.assertEqual(file.readline(), "pcc map 1\n")
 
+    @wants_preprocessor
     def test_macros_and_folders_go_to_the_preprocessor(self):
         os.mkdir(f"{self.room}/headers")
         with open(f"{self.room}/headers/own.h", "w", encoding="ascii") as file:
@@ -137,6 +147,7 @@ class Compiling(unittest.TestCase):
         with open(f"{self.room}/a.c", encoding="utf-8") as file:
             self.assertIn("main", file.read())
 
+    @wants_own_pcc
     def test_limit_on_the_size_of_a_file_refuses_a_write(self):
         self.call("int main(void) { return 0; }\n", "-o", "copy")
         size = os.path.getsize(f"{self.room}/copy.map")

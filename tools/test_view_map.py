@@ -14,9 +14,11 @@ sys.path.insert(0, f"{TOP}/tools")
 
 import maps  # noqa: E402
 import statements  # noqa: E402
+from present import draws_pages, wants, wants_pcc, wants_preprocessor  # noqa: E402
+
+wants_browser = wants(draws_pages(), "chromium isn't on this machine, or draws no page")
 
 PCC = os.environ.get("PCC", f"{TOP}/bin/pcc")
-IS_BUILT = "PCC" in os.environ or os.path.exists(f"{TOP}/crates/pcc/out/pcc")
 SOURCE = f"{TOP}/tools/every_op.c"
 # The ops whose first points are looked at.
 OPS = ("mark", "const", "shl", "sar", "div", "rem", "call", "putchar", "getchar", "exit", "set", "store", "low", "branch")
@@ -55,7 +57,8 @@ def columns_of(place):
     return [place[1] + side for side in "lh"] if len(place) == 3 else [place] * (place in COLUMNS)
 
 
-@unittest.skipUnless(IS_BUILT, "left out: bin/pcc isn't built")
+@wants_pcc
+@wants_preprocessor
 class Pages(unittest.TestCase):
     @classmethod
     def setUpClass(cls):
@@ -100,12 +103,12 @@ class Pages(unittest.TestCase):
         if point.op.name == "mark":
             self.assertEqual(int(drawn.line[1]), statements.statements_of([SOURCE])[int(point.op.words[1])].line)
 
-    @unittest.skipUnless(shutil.which("chromium"), "left out: chromium isn't on this machine")
+    @wants_browser
     def test_page_opens_at_a_point(self):
         f, point = self.points()[-1]
         self.check(f, point, self.draw(self.page, f"{f.name}:{point.number}"))
 
-    @unittest.skipUnless(shutil.which("chromium"), "left out: chromium isn't on this machine")
+    @wants_browser
     def test_cells_are_drawn_as_the_map_has_them(self):
         f = next(f for f in self.map.functions if f.name == "mix")
         listed, marks = f.points(), [p for p in f.points() if p.op.name == "mark"]
