@@ -13,7 +13,7 @@ use Rattle.c_fault_places.specs.Laws.{Same, Kept, Past, RisesTo}
 use Rattle.c_fault_places.specs.StatementReading.{below_of, read_unit}
 use Rattle.c_fault_places.proofs.Sound.{Holds}
 use Rattle.c_fault_places.proofs.SoundStatements.{SoundUnit, sound_unit}
-use Rattle.c_fault_places.proofs.PromptStatements.{unit_prompt}
+use Rattle.c_fault_places.proofs.AheadStatements.{unit_ahead}
 use Rattle.c_fault_places.proofs.RisingStatements.{unit_rises}
 use Rattle.c_fault_places.proofs.RightStatements.{begins_program}
 use Rattle.c_fault_places.proofs.StatementComplete.{tree_read}
@@ -147,7 +147,7 @@ pub exact : (n : ℕ) (ts : List Token) (deep : Bool) (us : List Token)
     → (before : List Token) × (ts ≡ before ++ us) × FaultAt (suc n) (if deep then TooDeep else Syntax) before us
 exact n ts deep us reads =
     (let k : Kept (read_unit (below_of n)) ts (Faults deep us) =
-    subst (λ o. Kept (read_unit (below_of n)) ts o) reads (unit_prompt n ts) in
+    subst (λ o. Kept (read_unit (below_of n)) ts o) reads (unit_ahead n ts) in
     let r = begins_program n ts deep us reads in (
       k.0,
       k.1,

@@ -13,11 +13,11 @@ pub mod RightExpressions
 pub mod RightDeclarations
 pub mod RightStatements
 pub mod Exact
-pub mod Prompt
-pub mod PromptTokens
-pub mod PromptExpressions
-pub mod PromptDeclarations
-pub mod PromptStatements
+pub mod Ahead
+pub mod AheadTokens
+pub mod AheadExpressions
+pub mod AheadDeclarations
+pub mod AheadStatements
 pub mod Rising
 pub mod RisingExpressions
 pub mod RisingDeclarations

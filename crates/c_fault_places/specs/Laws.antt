@@ -18,8 +18,8 @@ Kept {A} r ts (Found a us) = (took : List Token) × (ts ≡ took ++ us)
 Kept {A} r ts (Faults deep us) = (took : List Token) × (ts ≡ took ++ us)
     × ((w : List Token) → Same us w → r (took ++ w) ≡ Faults deep w)
 
-abbrev pub Prompt : {A : Type 0} → (List Token → Reads A) → Type 0
-Prompt r = (ts : List Token) → Kept r ts (r ts)
+abbrev pub Ahead : {A : Type 0} → (List Token → Reads A) → Type 0
+Ahead r = (ts : List Token) → Kept r ts (r ts)
 
 -- it leaves fewer tokens than these
 abbrev pub Past : {A : Type 0} → List Token → Reads A → Type 0

@@ -7,7 +7,7 @@ ghost use Rattle.c_syntax.specs.Statements.{ExternalTree};
 ghost use Rattle.c_syntax.specs.Grammar.{Tree};
 ghost use Rattle.c_grammar.specs.Faults.{Begins, FaultAt};
 ghost use Rattle.c_fault_places.specs.Chains.{Found, Faults};
-ghost use Rattle.c_fault_places.specs.Laws.{Prompt, RisesTo};
+ghost use Rattle.c_fault_places.specs.Laws.{Ahead, RisesTo};
 ghost use Rattle.c_fault_places.specs.StatementReading.{below_of, read_unit};
 
 /// What is read of all tokens, where the height may be at most `suc n`, is their tree, and each tree is read.
@@ -26,8 +26,8 @@ pub fn faults_begin_programs()
 {}
 
 /// What is read of a unit rests on the tokens that are read and on the next one alone, whatever stands behind it.
-pub fn readings_are_prompt()
-    ensures { (n : ℕ) → Prompt (read_unit (below_of n)) }
+pub fn readings_look_one_ahead()
+    ensures { (n : ℕ) → Ahead (read_unit (below_of n)) }
 {}
 
 /// Where the height may be at least three more, what was found is found, a fault that is not of height stays, and one

@@ -6,5 +6,5 @@ mod laws;
 
 pub use laws::{
     faults_begin_programs, faults_of_height_move_on, faults_stand_there, read_trees,
-    readings_are_prompt,
+    readings_look_one_ahead,
 };

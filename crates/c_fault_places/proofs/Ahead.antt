@@ -7,7 +7,7 @@ use Rattle.c_grammar.specs.Taking.{with_front}
 use Rattle.c_fault_places.specs.Chains.{Step, Done, Fails, Goes, Takes, Reads, Found, Faults, then_read, then_step}
 use Rattle.c_fault_places.specs.Chains.{above}
 use Rattle.c_fault_places.specs.Chains.{chain, chain_on, chained}
-use Rattle.c_fault_places.specs.Laws.{Same, Kept, Prompt}
+use Rattle.c_fault_places.specs.Laws.{Same, Kept, Ahead}
 
 -- behind tokens that are the same, the next ones are the same
 pub same_behind : (took us w : List Token) → Same us w → Same (took ++ us) (took ++ w)
@@ -18,11 +18,11 @@ pub same_refl : (ts : List Token) → Same ts ts
 same_refl [] = tt
 same_refl (t ∷ ts) = refl
 
-pub found_prompt : {A : Type 0} (a : A) → Prompt (λ xs. Found a xs)
-found_prompt a ts = ([], refl, λ w s. refl)
+pub found_ahead : {A : Type 0} (a : A) → Ahead (λ xs. Found a xs)
+found_ahead a ts = ([], refl, λ w s. refl)
 
-pub faults_prompt : {A : Type 0} (deep : Bool) → Prompt {A = A} (λ xs. Faults deep xs)
-faults_prompt deep ts = ([], refl, λ w s. refl)
+pub faults_ahead : {A : Type 0} (deep : Bool) → Ahead {A = A} (λ xs. Faults deep xs)
+faults_ahead deep ts = ([], refl, λ w s. refl)
 
 -- ---- one behind the other
 
@@ -45,13 +45,13 @@ behind r f ts us a took e same (Faults d vs) k = (
 )
 
 then_kept : {A B : Type 0} (r : List Token → Reads A) (f : A → List Token → Reads B) (ts : List Token) (out : Reads A)
-    → Kept r ts out → ((a : A) → Prompt (f a)) → Kept (λ xs. then_read (r xs) f) ts (then_read out f)
+    → Kept r ts out → ((a : A) → Ahead (f a)) → Kept (λ xs. then_read (r xs) f) ts (then_read out f)
 then_kept r f ts (Found a us) k p = behind r f ts us a k.0 k.1 k.2 (f a us) (p a us)
 then_kept r f ts (Faults d us) k p = (k.0, k.1, λ w s. ap (λ o. then_read o f) (k.2 w s))
 
-pub prompt_then : {A B : Type 0} (r : List Token → Reads A) (f : A → List Token → Reads B) → Prompt r
-    → ((a : A) → Prompt (f a)) → Prompt (λ ts. then_read (r ts) f)
-prompt_then r f pr pf ts = then_kept r f ts (r ts) (pr ts) pf
+pub ahead_then : {A B : Type 0} (r : List Token → Reads A) (f : A → List Token → Reads B) → Ahead r
+    → ((a : A) → Ahead (f a)) → Ahead (λ ts. then_read (r ts) f)
+ahead_then r f pr pf ts = then_kept r f ts (r ts) (pr ts) pf
 
 -- ---- alike readings
 
@@ -75,8 +75,8 @@ pub kept_alike : {A : Type 0} (r q : List Token → Reads A) (ts : List Token)
     → ((xs : List Token) → Same ts xs → r xs ≡ q xs) → Kept q ts (q ts) → Kept r ts (r ts)
 kept_alike r q ts e p = subst (λ o. Kept r ts o) (sym (e ts (same_refl ts))) (alike_out r q ts e (q ts) p)
 
-pub prompt_same : {A : Type 0} (r q : List Token → Reads A) → ((xs : List Token) → r xs ≡ q xs) → Prompt q → Prompt r
-prompt_same r q e p ts = kept_alike r q ts (λ xs s. e xs) (p ts)
+pub ahead_same : {A : Type 0} (r q : List Token → Reads A) → ((xs : List Token) → r xs ≡ q xs) → Ahead q → Ahead r
+ahead_same r q e p ts = kept_alike r q ts (λ xs s. e xs) (p ts)
 
 -- what another reading reads from this token on
 pub token_alike : {A : Type 0} (r q : List Token → Reads A) (t : Token) (us : List Token)
@@ -103,27 +103,27 @@ token_more r t us (Faults d vs) k = (t ∷ k.0, ap (λ x. t ∷ x) k.1, k.2)
 
 -- what is read behind this token, or else it fails at the token
 pub data Behind (A : Type 0) (t : Token) (g : List Token → Reads A) : Type 0 where
-  Reading : (prompt : Prompt g) → Behind A t g
+  Reading : (ahead : Ahead g) → Behind A t g
   Stuck : (deep : Bool) (is : (xs : List Token) → g xs ≡ Faults deep (t ∷ xs)) → Behind A t g
 
 pub behind_same : {A : Type 0} (t : Token) (g h : List Token → Reads A) → ((xs : List Token) → h xs ≡ g xs)
     → Behind A t g → Behind A t h
-behind_same t g h e (Reading p) = Reading (prompt_same h g e p)
+behind_same t g h e (Reading p) = Reading (ahead_same h g e p)
 behind_same t g h e (Stuck deep is) = Stuck deep (λ xs. e xs ∙ is xs)
 
 pub behind_kept : {A : Type 0} (r : List Token → Reads A) (t : Token) (us : List Token)
     → Behind A t (λ xs. r (t ∷ xs)) → Kept r (t ∷ us) (r (t ∷ us))
 behind_kept r t us (Reading p) = token_more r t us (r (t ∷ us)) (p us)
-behind_kept r t us (Stuck deep is) = token_alike r (λ xs. Faults deep xs) t us is (faults_prompt deep (t ∷ us))
+behind_kept r t us (Stuck deep is) = token_alike r (λ xs. Faults deep xs) t us is (faults_ahead deep (t ∷ us))
 
 -- behind a token that makes a node above a part that is so high
 pub behind_above : {A B : Type 0} (part height : ℕ) (t : Token) (r : List Token → Reads A)
-    (f : A → List Token → Reads B) → Prompt r → ((a : A) → Prompt (f a))
+    (f : A → List Token → Reads B) → Ahead r → ((a : A) → Ahead (f a))
     → Behind B t (λ us. then_read (above part height t us (r us)) f)
 behind_above {A} {B} part height t r f p q = by (ltb part height)
   where
     by : (b : Bool) → Behind B t (λ us. then_read (if b then r us else Faults true (t ∷ us)) f)
-    by true = Reading (prompt_then r f p q)
+    by true = Reading (ahead_then r f p q)
     by false = Stuck true (λ xs. refl)
 
 -- ---- a choice by the next token
@@ -144,12 +144,12 @@ fits_behind {K} {A} spell take f t k is e q =
     behind_same t (λ us. f (Some (k, us)) (t ∷ us)) (λ us. f (take (t ∷ us)) (t ∷ us))
     (λ xs. ap (λ o. f o (t ∷ xs)) (e xs)) (subst (λ x. Behind A x (λ us. f (Some (k, us)) (x ∷ us))) (sym is) q)
 
-pub prompt_choice : {K A : Type 0} (spell : K → Token) (take : List Token → Takes K) → Single K spell take
-    → (f : Takes K → List Token → Reads A) → Prompt (λ ts. f None ts)
-    → ((k : K) → Behind A (spell k) (λ us. f (Some (k, us)) (spell k ∷ us))) → Prompt (λ ts. f (take ts) ts)
-prompt_choice spell take s f p q [] =
+pub ahead_choice : {K A : Type 0} (spell : K → Token) (take : List Token → Takes K) → Single K spell take
+    → (f : Takes K → List Token → Reads A) → Ahead (λ ts. f None ts)
+    → ((k : K) → Behind A (spell k) (λ us. f (Some (k, us)) (spell k ∷ us))) → Ahead (λ ts. f (take ts) ts)
+ahead_choice spell take s f p q [] =
     nothing_alike (λ xs. f (take xs) xs) (λ xs. f None xs) (ap (λ o. f o []) s.nothing) (p [])
-prompt_choice {K} {A} spell take s f p q (t ∷ us) = under (s.token t)
+ahead_choice {K} {A} spell take s f p q (t ∷ us) = under (s.token t)
   where
     under : Fitting K spell take t → Kept (λ xs. f (take xs) xs) (t ∷ us) (f (take (t ∷ us)) (t ∷ us))
     under (Misses e) = token_alike (λ xs. f (take xs) xs) (λ xs. f None xs) t us (λ xs. ap (λ o. f o (t ∷ xs)) (e xs))
@@ -157,12 +157,12 @@ prompt_choice {K} {A} spell take s f p q (t ∷ us) = under (s.token t)
     under (Fits k is e) = behind_kept (λ xs. f (take xs) xs) t us (fits_behind spell take f t k is e (q k))
 
 -- where such a token leaves all as it is
-pub prompt_unless : {K A : Type 0} (spell : K → Token) (take : List Token → Takes K) → Single K spell take
-    → (f : Takes K → List Token → Reads A) (q : List Token → Reads A) → Prompt (λ ts. f None ts) → Prompt q
-    → ((k : K) (us ts : List Token) → f (Some (k, us)) ts ≡ q ts) → Prompt (λ ts. f (take ts) ts)
-prompt_unless spell take s f q p pq e [] =
+pub ahead_unless : {K A : Type 0} (spell : K → Token) (take : List Token → Takes K) → Single K spell take
+    → (f : Takes K → List Token → Reads A) (q : List Token → Reads A) → Ahead (λ ts. f None ts) → Ahead q
+    → ((k : K) (us ts : List Token) → f (Some (k, us)) ts ≡ q ts) → Ahead (λ ts. f (take ts) ts)
+ahead_unless spell take s f q p pq e [] =
     nothing_alike (λ xs. f (take xs) xs) (λ xs. f None xs) (ap (λ o. f o []) s.nothing) (p [])
-prompt_unless {K} {A} spell take s f q p pq e (t ∷ us) = under (s.token t)
+ahead_unless {K} {A} spell take s f q p pq e (t ∷ us) = under (s.token t)
   where
     under : Fitting K spell take t → Kept (λ xs. f (take xs) xs) (t ∷ us) (f (take (t ∷ us)) (t ∷ us))
     under (Misses h) = token_alike (λ xs. f (take xs) xs) (λ xs. f None xs) t us (λ xs. ap (λ o. f o (t ∷ xs)) (h xs))
@@ -184,27 +184,27 @@ pub record Row (K : Type 0) (take : List Token → List K × List Token) : Type 
 abbrev pub row_of : {R : Type 0} → (List Token → R × List Token) → List Token → Reads R
 row_of take ts = Found (take ts).0 (take ts).1
 
-pub prompt_row : {K : Type 0} (take : List Token → List K × List Token) → Row K take → Prompt (row_of take)
-prompt_row take s [] =
-    nothing_alike (row_of take) (λ xs. Found [] xs) (ap (λ r. Found r.0 r.1) s.nothing) (found_prompt [] [])
-prompt_row {K} take s (t ∷ ts) = under (s.token t) (prompt_row take s ts)
+pub ahead_row : {K : Type 0} (take : List Token → List K × List Token) → Row K take → Ahead (row_of take)
+ahead_row take s [] =
+    nothing_alike (row_of take) (λ xs. Found [] xs) (ap (λ r. Found r.0 r.1) s.nothing) (found_ahead [] [])
+ahead_row {K} take s (t ∷ ts) = under (s.token t) (ahead_row take s ts)
   where
     under : RowFit K take t → Kept (row_of take) ts (row_of take ts)
         → Kept (row_of take) (t ∷ ts) (row_of take (t ∷ ts))
     under (Ends e) k = token_alike (row_of take) (λ xs. Found [] xs) t ts (λ xs. ap (λ r. Found r.0 r.1) (e xs))
-        (found_prompt [] (t ∷ ts))
+        (found_ahead [] (t ∷ ts))
     under (More x e) k = token_more (row_of take) t ts (row_of take (t ∷ ts))
         (kept_alike (λ xs. row_of take (t ∷ xs)) (λ xs. then_read (row_of take xs) (λ a us. Found (x ∷ a) us)) ts
         (λ xs s. ap (λ r. Found r.0 r.1) (e xs))
-        (then_kept (row_of take) (λ a us. Found (x ∷ a) us) ts (row_of take ts) k (λ a. found_prompt (x ∷ a))))
+        (then_kept (row_of take) (λ a us. Found (x ∷ a) us) ts (row_of take ts) k (λ a. found_ahead (x ∷ a))))
 
 -- a choice by whether there is such a row
-pub prompt_by_row : {K A : Type 0} (take : List Token → List K × List Token) → Row K take
-    → (f : List K → List Token → Reads A) (q : List Token → Reads A) → Prompt (λ ts. f [] ts) → Prompt q
-    → ((k : K) (ks : List K) (ts : List Token) → f (k ∷ ks) ts ≡ q ts) → Prompt (λ ts. f (take ts).0 ts)
-prompt_by_row take s f q p pq e [] =
+pub ahead_by_row : {K A : Type 0} (take : List Token → List K × List Token) → Row K take
+    → (f : List K → List Token → Reads A) (q : List Token → Reads A) → Ahead (λ ts. f [] ts) → Ahead q
+    → ((k : K) (ks : List K) (ts : List Token) → f (k ∷ ks) ts ≡ q ts) → Ahead (λ ts. f (take ts).0 ts)
+ahead_by_row take s f q p pq e [] =
     nothing_alike (λ xs. f (take xs).0 xs) (λ xs. f [] xs) (ap (λ r. f r.0 []) s.nothing) (p [])
-prompt_by_row {K} {A} take s f q p pq e (t ∷ us) = under (s.token t)
+ahead_by_row {K} {A} take s f q p pq e (t ∷ us) = under (s.token t)
   where
     under : RowFit K take t → Kept (λ xs. f (take xs).0 xs) (t ∷ us) (f (take (t ∷ us)).0 (t ∷ us))
     under (Ends h) = token_alike (λ xs. f (take xs).0 xs) (λ xs. f [] xs) t us
@@ -225,7 +225,7 @@ onward r ts (Found a us) k =
 onward r ts (Faults d us) k =
     (let e : length ts ≡ length (k.0 ++ us) = ap length k.1 in omega (arith, length-append k.0 us))
 
-pub goes_onward : {A : Type 0} (r : List Token → Reads A) → Prompt r → (ts : List Token) → Onward ts (r ts)
+pub goes_onward : {A : Type 0} (r : List Token → Reads A) → Ahead r → (ts : List Token) → Onward ts (r ts)
 goes_onward r p ts = onward r ts (r ts) (p ts)
 
 -- what is found leaves fewer
@@ -246,7 +246,7 @@ eaten_last ts us (Faults d vs) l o = tt
 
 -- the first of two takes a token
 pub eats_first : {A B : Type 0} (r : List Token → Reads A) (f : A → List Token → Reads B) → Eats r
-    → ((a : A) → Prompt (f a)) → Eats (λ ts. then_read (r ts) f)
+    → ((a : A) → Ahead (f a)) → Eats (λ ts. then_read (r ts) f)
 eats_first {A} {B} r f h p ts = by (r ts) (h ts)
   where
     by : (out : Reads A) → Eaten ts out → Eaten ts (then_read out f)
@@ -254,7 +254,7 @@ eats_first {A} {B} r f h p ts = by (r ts) (h ts)
     by (Faults d us) l = tt
 
 -- the second one does
-pub eats_last : {A B : Type 0} (r : List Token → Reads A) (f : A → List Token → Reads B) → Prompt r
+pub eats_last : {A B : Type 0} (r : List Token → Reads A) (f : A → List Token → Reads B) → Ahead r
     → ((a : A) → Eats (f a)) → Eats (λ ts. then_read (r ts) f)
 eats_last {A} {B} r f p h ts = by (r ts) (goes_onward r p ts)
   where
@@ -291,18 +291,18 @@ KeptStep r ts (Fails deep us) = (took : List Token) × (ts ≡ took ++ us)
 KeptStep r ts (Goes a us) = (took : List Token) × (ts ≡ took ++ us) × (0 < length took)
     × ((w : List Token) → Same us w → r (took ++ w) ≡ Goes a w)
 
-abbrev pub PromptStep : {A : Type 0} → (List Token → Step A) → Type 0
-PromptStep r = (ts : List Token) → KeptStep r ts (r ts)
+abbrev pub AheadStep : {A : Type 0} → (List Token → Step A) → Type 0
+AheadStep r = (ts : List Token) → KeptStep r ts (r ts)
 
 pub step_then : {A B : Type 0} (r : Reads A) (f : A → List Token → Step B) (h : A → List Token → Reads B)
     → ((a : A) (us : List Token) → f a us ≡ step_of (h a us)) → then_step r f ≡ step_of (then_read r h)
 step_then (Found a us) f h e = e a us
 step_then (Faults d us) f h e = refl
 
-pub step_done : {A : Type 0} → PromptStep {A = A} (λ ts. Done)
+pub step_done : {A : Type 0} → AheadStep {A = A} (λ ts. Done)
 step_done ts w s = refl
 
-step_fails : {A : Type 0} (deep : Bool) → PromptStep {A = A} (λ ts. Fails deep ts)
+step_fails : {A : Type 0} (deep : Bool) → AheadStep {A = A} (λ ts. Fails deep ts)
 step_fails deep ts = ([], refl, λ w s. refl)
 
 alike_step : {A : Type 0} (r q : List Token → Step A) (ts : List Token)
@@ -326,8 +326,8 @@ step_alike : {A : Type 0} (r q : List Token → Step A) (ts : List Token)
     → ((xs : List Token) → Same ts xs → r xs ≡ q xs) → KeptStep q ts (q ts) → KeptStep r ts (r ts)
 step_alike r q ts e p = subst (λ o. KeptStep r ts o) (sym (e ts (same_refl ts))) (alike_step r q ts e (q ts) p)
 
-pub step_same : {A : Type 0} (r q : List Token → Step A) → ((xs : List Token) → r xs ≡ q xs) → PromptStep q
-    → PromptStep r
+pub step_same : {A : Type 0} (r q : List Token → Step A) → ((xs : List Token) → r xs ≡ q xs) → AheadStep q
+    → AheadStep r
 step_same r q e p ts = step_alike r q ts (λ xs s. e xs) (p ts)
 
 pub step_token : {A : Type 0} (r q : List Token → Step A) (t : Token) (us : List Token)
@@ -361,9 +361,9 @@ step_behind r t g us e (Stuck deep is) =
     step_token r (λ xs. Fails deep xs) t us (λ xs. e xs ∙ ap step_of (is xs)) (step_fails deep (t ∷ us))
 
 pub step_choice : {K A : Type 0} (spell : K → Token) (take : List Token → Takes K) → Single K spell take
-    → (f : Takes K → List Token → Step A) (g : K → List Token → Reads A) → PromptStep (λ ts. f None ts)
+    → (f : Takes K → List Token → Step A) (g : K → List Token → Reads A) → AheadStep (λ ts. f None ts)
     → ((k : K) (us ts : List Token) → f (Some (k, us)) ts ≡ step_of (g k us)) → ((k : K) → Behind A (spell k) (g k))
-    → PromptStep (λ ts. f (take ts) ts)
+    → AheadStep (λ ts. f (take ts) ts)
 step_choice spell take s f g p e q [] =
     step_nothing (λ xs. f (take xs) xs) (λ xs. f None xs) (ap (λ o. f o []) s.nothing) (p [])
 step_choice {K} {A} spell take s f g p e q (t ∷ us) = under (s.token t)
@@ -377,8 +377,8 @@ step_choice {K} {A} spell take s f g p e q (t ∷ us) = under (s.token t)
 
 -- where such a token ends the loop
 pub step_until : {K A : Type 0} (spell : K → Token) (take : List Token → Takes K) → Single K spell take
-    → (f : Takes K → List Token → Step A) → PromptStep (λ ts. f None ts)
-    → ((k : K) (us ts : List Token) → f (Some (k, us)) ts ≡ Done) → PromptStep (λ ts. f (take ts) ts)
+    → (f : Takes K → List Token → Step A) → AheadStep (λ ts. f None ts)
+    → ((k : K) (us ts : List Token) → f (Some (k, us)) ts ≡ Done) → AheadStep (λ ts. f (take ts) ts)
 step_until spell take s f p e [] =
     step_nothing (λ xs. f (take xs) xs) (λ xs. f None xs) (ap (λ o. f o []) s.nothing) (p [])
 step_until {K} {A} spell take s f p e (t ∷ us) = under (s.token t)
@@ -390,7 +390,7 @@ step_until {K} {A} spell take s f p e (t ∷ us) = under (s.token t)
         (λ xs. ap (λ o. f o (t ∷ xs)) (h xs) ∙ e k xs (t ∷ xs)) (step_done (t ∷ us))
 
 -- a step that reads a part, which takes a token
-pub step_reads : {A : Type 0} (r : List Token → Reads A) → Prompt r → Eats r → PromptStep (λ ts. step_of (r ts))
+pub step_reads : {A : Type 0} (r : List Token → Reads A) → Ahead r → Eats r → AheadStep (λ ts. step_of (r ts))
 step_reads {A} r p h ts = by (r ts) (p ts) (h ts)
   where
     by : (out : Reads A) → Kept r ts out → Eaten ts out → KeptStep (λ xs. step_of (r xs)) ts (step_of out)
@@ -408,7 +408,7 @@ KeptChain step a ts (Found b us) = (took : List Token) × (ts ≡ took ++ us)
 KeptChain step a ts (Faults d us) = (took : List Token) × (ts ≡ took ++ us)
     × ((w : List Token) → Same us w → (m : ℕ) → length (took ++ w) ≤ m → chain step m a (took ++ w) ≡ Faults d w)
 
-module _ {A : Type 0} (step : A → List Token → Step A) (prompt : (a : A) → PromptStep (step a)) where
+module _ {A : Type 0} (step : A → List Token → Step A) (ahead : (a : A) → AheadStep (step a)) where
   ends : (a : A) (w : List Token) (out : Reads A) (o : Step A) → step a w ≡ o
       → ((next : A → List Token → Reads A) → chain_on o next a w ≡ out) → (m : ℕ) → chain step m a w ≡ out
   unfolding chain
@@ -455,12 +455,12 @@ module _ {A : Type 0} (step : A → List Token → Step A) (prompt : (a : A) →
 
   walk : (n : ℕ) (a : A) (ts : List Token) → length ts ≤ n → KeptChain step a ts (chain step n a ts)
   unfolding chain
-  walk zero a ts l = from a ts (λ b us. Faults false us) (λ b us less. absurd (omega arith)) (step a ts) (prompt a ts)
-  walk (suc n) a ts l = from a ts (chain step n) (λ b us less. walk n b us (omega arith)) (step a ts) (prompt a ts)
+  walk zero a ts l = from a ts (λ b us. Faults false us) (λ b us less. absurd (omega arith)) (step a ts) (ahead a ts)
+  walk (suc n) a ts l = from a ts (chain step n) (λ b us less. walk n b us (omega arith)) (step a ts) (ahead a ts)
 
   chain_kept : (a : A) (ts : List Token) (out : Reads A) → KeptChain step a ts out → Kept (chained step a) ts out
   chain_kept a ts (Found b us) k = (k.0, k.1, λ w s. k.2 w s (length (k.0 ++ w)) (omega arith))
   chain_kept a ts (Faults d us) k = (k.0, k.1, λ w s. k.2 w s (length (k.0 ++ w)) (omega arith))
 
-  pub prompt_chained : (a : A) → Prompt (chained step a)
-  prompt_chained a ts = chain_kept a ts (chained step a ts) (walk (length ts) a ts (omega arith))
+  pub ahead_chained : (a : A) → Ahead (chained step a)
+  ahead_chained a ts = chain_kept a ts (chained step a ts) (walk (length ts) a ts (omega arith))

@@ -27,13 +27,13 @@ use Rattle.c_grammar.specs.Taking.{take_specifiers, take_consts, pointer_from, t
 use Rattle.c_fault_places.specs.Chains.{Takes, Reads, Found, needed}
 use Rattle.c_fault_places.specs.Taking.{read_mark, read_word}
 use Rattle.c_fault_places.specs.DeclarationReading.{name_from, take_name}
-use Rattle.c_fault_places.specs.Laws.{Kept, Prompt}
+use Rattle.c_fault_places.specs.Laws.{Kept, Ahead}
 use Rattle.c_fault_places.proofs.Sound.{HoldsTaken, mark_taken, word_taken, unary_taken, step_taken, assign_taken}
 use Rattle.c_fault_places.proofs.Sound.{binary_taken}
-use Rattle.c_fault_places.proofs.Prompt.{Single, Fitting, Misses, Fits, Row, RowFit, Ends, More, row_of, Eats, Reading}
-use Rattle.c_fault_places.proofs.Prompt.{found_prompt, faults_prompt, prompt_then, prompt_choice, prompt_row}
-use Rattle.c_fault_places.proofs.Prompt.{eats_choice}
-use Rattle.c_fault_places.proofs.Prompt.{token_alike, nothing_alike, behind_kept, behind_same}
+use Rattle.c_fault_places.proofs.Ahead.{Single, Fitting, Misses, Fits, Row, RowFit, Ends, More, row_of, Eats, Reading}
+use Rattle.c_fault_places.proofs.Ahead.{found_ahead, faults_ahead, ahead_then, ahead_choice, ahead_row}
+use Rattle.c_fault_places.proofs.Ahead.{eats_choice}
+use Rattle.c_fault_places.proofs.Ahead.{token_alike, nothing_alike, behind_kept, behind_same}
 
 -- ---- one token
 
@@ -115,17 +115,17 @@ binary_single k = single spell_binary (take_binary k) refl
     (λ t. paired (at_level k (of_mark binary_of_mark t.kind)) t.at)
     (λ t us. by_table (at_level k (of_mark binary_of_mark t.kind)) t.at us)
 
-pub mark_prompt : (m : Punct) → Prompt (read_mark m)
-mark_prompt m = prompt_choice (mark m) (take_mark m) (mark_single m) (λ o ts. needed ts o) (faults_prompt false)
-    (λ k. Reading (found_prompt k))
+pub mark_ahead : (m : Punct) → Ahead (read_mark m)
+mark_ahead m = ahead_choice (mark m) (take_mark m) (mark_single m) (λ o ts. needed ts o) (faults_ahead false)
+    (λ k. Reading (found_ahead k))
 
 pub mark_eats : (m : Punct) → Eats (read_mark m)
 mark_eats m = eats_choice (mark m) (take_mark m) (mark_single m) (λ o ts. needed ts o) (λ ts. tt)
-    (λ k. Reading (found_prompt k))
+    (λ k. Reading (found_ahead k))
 
-pub word_prompt : (w : Keyword) → Prompt (read_word w)
-word_prompt w = prompt_choice (word w) (take_word w) (word_single w) (λ o ts. needed ts o) (faults_prompt false)
-    (λ k. Reading (found_prompt k))
+pub word_ahead : (w : Keyword) → Ahead (read_word w)
+word_ahead w = ahead_choice (word w) (take_word w) (word_single w) (λ o ts. needed ts o) (faults_ahead false)
+    (λ k. Reading (found_ahead k))
 
 -- ---- rows
 
@@ -158,20 +158,20 @@ consts_fit t true e = More t.at (λ us. ap (λ b. consts_from b t us) e)
 pub consts_row : Row Span take_consts
 consts_row = record { nothing = refl; token = λ t. consts_fit t (is_word words.Const t.kind) refl }
 
-pub texts_prompt : Prompt (row_of take_texts)
-texts_prompt = prompt_row take_texts texts_row
+pub texts_ahead : Ahead (row_of take_texts)
+texts_ahead = ahead_row take_texts texts_row
 
-pub specifiers_prompt : Prompt (row_of take_specifiers)
-specifiers_prompt = prompt_row take_specifiers specifiers_row
+pub specifiers_ahead : Ahead (row_of take_specifiers)
+specifiers_ahead = ahead_row take_specifiers specifiers_row
 
-pub consts_prompt : Prompt (row_of take_consts)
-consts_prompt = prompt_row take_consts consts_row
+pub consts_ahead : Ahead (row_of take_consts)
+consts_ahead = ahead_row take_consts consts_row
 
-pub pointer_prompt : Prompt (row_of take_pointer)
-pointer_prompt = prompt_choice (mark marks.Star) (take_mark marks.Star) (mark_single marks.Star)
-    (λ o ts. row_of (pointer_from o) ts) (found_prompt None)
-    (λ star. Reading (prompt_then (row_of take_consts) (λ cs us. Found (Some (record { star = star; consts = cs })) us)
-    consts_prompt (λ cs. found_prompt (Some (record { star = star; consts = cs })))))
+pub pointer_ahead : Ahead (row_of take_pointer)
+pointer_ahead = ahead_choice (mark marks.Star) (take_mark marks.Star) (mark_single marks.Star)
+    (λ o ts. row_of (pointer_from o) ts) (found_ahead None)
+    (λ star. Reading (ahead_then (row_of take_consts) (λ cs us. Found (Some (record { star = star; consts = cs })) us)
+    consts_ahead (λ cs. found_ahead (Some (record { star = star; consts = cs })))))
 
 abbrev named : TokenKind → Token → List Token → Reads (Option Ident)
 named kind t ts = Found (name_from kind t ts).0 (name_from kind t ts).1
@@ -181,20 +181,20 @@ name_kept : (t : Token) (us : List Token) (kind : TokenKind) → t.kind ≡ kind
 name_kept t us (kinds.Ident name) e =
     (let n : Ident = record { name = name; at = t.at } in
     behind_kept (row_of take_name) t us (behind_same t (λ xs. Found (Some n) xs) (λ xs. row_of take_name (t ∷ xs))
-    (λ xs. ap (λ k. named k t xs) e) (Reading (found_prompt (Some n)))))
+    (λ xs. ap (λ k. named k t xs) e) (Reading (found_ahead (Some n)))))
 name_kept t us (kinds.Word w) e =
     token_alike (row_of take_name) (λ xs. Found None xs) t us (λ xs. ap (λ k. named k t xs) e)
-    (found_prompt None (t ∷ us))
+    (found_ahead None (t ∷ us))
 name_kept t us (kinds.Text bytes) e =
     token_alike (row_of take_name) (λ xs. Found None xs) t us (λ xs. ap (λ k. named k t xs) e)
-    (found_prompt None (t ∷ us))
+    (found_ahead None (t ∷ us))
 name_kept t us (kinds.Number z u) e =
     token_alike (row_of take_name) (λ xs. Found None xs) t us (λ xs. ap (λ k. named k t xs) e)
-    (found_prompt None (t ∷ us))
+    (found_ahead None (t ∷ us))
 name_kept t us (kinds.Mark m) e =
     token_alike (row_of take_name) (λ xs. Found None xs) t us (λ xs. ap (λ k. named k t xs) e)
-    (found_prompt None (t ∷ us))
+    (found_ahead None (t ∷ us))
 
-pub name_prompt : Prompt (row_of take_name)
-name_prompt [] = nothing_alike (row_of take_name) (λ xs. Found None xs) refl (found_prompt None [])
-name_prompt (t ∷ us) = name_kept t us t.kind refl
+pub name_ahead : Ahead (row_of take_name)
+name_ahead [] = nothing_alike (row_of take_name) (λ xs. Found None xs) refl (found_ahead None [])
+name_ahead (t ∷ us) = name_kept t us t.kind refl
