@@ -15,6 +15,7 @@ pub type Height = Result<u64, NoMemory>;
 pub(crate) fn raised(height: u64, by: u64) -> Height
     ensures { IfOk result (λ n. n ≡ height + by) }
 {
+    // This sum is never refused: a tree's height is at most that of its raw tree, which is 256 at most.
     height.checked_add(by).ok_or(NoMemory)
 }
 

@@ -50,6 +50,7 @@ fn push(
 fn small(count: usize) -> Result<u32, NoMemory>
     ensures { IfOk result (λ n. n ≡ count) }
 {
+    // No caller meets this: the values and letters that are counted are no more than the bytes of a file.
     if count > u32::MAX as usize {
         return Err(NoMemory);
     }
@@ -122,6 +123,7 @@ pub fn arrays_bytes(objects: &[Described]) -> Result<u64, NoMemory>
     let mut left = objects.len();
     'objects: while left > 0 {
         left -= 1;
+        // This sum is never refused: an object has fewer than 2^35 bytes, and each has tokens of its own.
         sum = object_bytes(&objects[left])
             .checked_add(sum)
             .ok_or(NoMemory)?;

@@ -24,6 +24,7 @@ fn array_bytes(array: &LocalArray) -> u64
 fn within(number: u64) -> Result<u64, NoMemory>
     ensures { IfOk result (λ n. (n ≡ number) × (n < 2 ^ 58)) }
 {
+    // No caller meets this: an array has fewer than 2^35 bytes, and a function at most 65,536 arrays.
     if number >= 1 << 58 {
         return Err(NoMemory);
     }
@@ -38,6 +39,7 @@ fn arrays_bytes(arrays: &[LocalArray]) -> Result<u64, NoMemory>
     let mut left = arrays.len();
     'arrays: while left > 0 {
         left -= 1;
+        // This sum is never refused: an array has fewer than 2^35 bytes, and a function at most 65,536 arrays.
         sum = array_bytes(&arrays[left]).checked_add(sum).ok_or(NoMemory)?;
     }
     Ok(sum)

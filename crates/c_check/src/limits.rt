@@ -19,6 +19,7 @@ fn large_frame(functions: &[Function]) -> Result<Option<Limit>, NoMemory>
     ensures { IfOk result (λ l. l ≡ large_frame 0 (map function_of functions.now)) }
 {
     let mut found = None;
+    // No caller meets this: each function has tokens of its own, and sixteen texts have at most 65,536 each.
     if functions.len() > u32::MAX as usize {
         return Err(NoMemory);
     }

@@ -37,6 +37,7 @@ pub fn text_length(pieces: &[TextPiece]) -> Result<usize, NoMemory>
 {
     let mut length = 0_usize;
     for piece in pieces {
+        // This sum is never refused: letters are no more than the bytes of a file.
         length = length
             .checked_add(piece.bytes.as_bytes().len())
             .ok_or(NoMemory)?;
@@ -49,6 +50,7 @@ fn count_given(of: Option<ValueType>, value: &Initialiser) -> Result<Option<u32>
     ensures { IfOk result (λ n. n ≡ count_given (values_by of (initialiser_of value.now))) }
 {
     if let Some(pieces) = letters_in(of, value) {
+        // This sum is never refused: letters are no more than the bytes of a file.
         let count = text_length(pieces)?.checked_add(1).ok_or(NoMemory)?;
         return Ok(Some(number(count)?));
     }

@@ -14,6 +14,7 @@ use std::marker::Model;
 pub fn number(count: usize) -> Result<u32, NoMemory>
     ensures { IfOk result (λ n. n ≡ count) }
 {
+    // No caller meets this: what is numbered has a token of its own, and a text has at most 65,536.
     if count > u32::MAX as usize {
         return Err(NoMemory);
     }

@@ -176,6 +176,7 @@ fn number(n: usize) -> Result<u32, NoMemory>
 {
     match u32::try_from(n) {
         Ok(n) => Ok(n),
+        // No caller meets this: each statement has a token of its own, and a text has at most 65,536.
         Err(_) => Err(NoMemory),
     }
 }

@@ -121,6 +121,7 @@ impl Arrays {
             (λ _. self.new ≡ self.old) }
     {
         let start = self.elements.len();
+        // This sum is never refused: all elements before stand in memory, and an array has fewer than 2^32.
         let end = start.checked_add(count).ok_or(NoMemory)?;
         self.spans.push(Span { start, count })?;
         match self.elements.resize(end, 0) {

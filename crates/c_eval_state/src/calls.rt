@@ -166,6 +166,8 @@ pub fn push_call(
         (λ _. (calls.new.items ≡ calls.old.items) × (locals.new.items ≡ locals.old.items)
         × (arrays.new ≡ arrays.old)) }
 {
+    // This number is never refused: at most 4,096 calls are active, each of at most 2,048 arrays in 16,384 bytes of
+    // frame.
     let first_array = u32::try_from(arrays.len()).map_err(|_| NoMemory)?;
     let count = u32::try_from(function.arrays.len()).map_err(|_| NoMemory)?;
     calls.push(Call {

@@ -56,5 +56,6 @@ pub fn function(site: &Site<'_>) -> Result<Lines, NoMemory>
     if ahead.is_right() {
         return Ok(lines);
     }
+    // No caller meets this: both looks make the same lines, so the numbers of blocks agree.
     Err(NoMemory)
 }

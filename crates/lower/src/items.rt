@@ -75,6 +75,7 @@ fn element(
         ((operand (context_of site.now) true (part_of (context_of site.now) (expression_of e.now))).spot 1).number)
         ∷ []))) }
 {
+    // This number is never refused: an array in a frame has at most 16,384 elements.
     let at = i32::try_from(place).map_err(|_| NoMemory)?;
     let x = stood(lines, site, 1, true, e)?;
     store_element(lines, site, t, at, x.number)

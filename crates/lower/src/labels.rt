@@ -92,6 +92,7 @@ fn block_of(
 {
     match block_at(starts, before as usize) {
         Some(block) => Ok(block),
+        // No caller meets this: labels name places among the statements of their block.
         None => Err(NoMemory),
     }
 }

@@ -29,6 +29,7 @@ fn behind(cases: &[(i32, u32)]) -> Result<u32, NoMemory>
     if cases.is_empty() {
         return Ok(0);
     }
+    // This number is never refused: each case has tokens of its own.
     let blocks = u32::try_from(cases.len() - 1).map_err(|_| NoMemory)?;
     Ok(blocks)
 }

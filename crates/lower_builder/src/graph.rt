@@ -19,6 +19,7 @@ fn add_widths(graph: &mut Graph, widths: &[Width]) -> Result<(), NoMemory>
     ensures { OnOk result (graph.new ≡ and_widths graph.old widths.now) }
 {
     for width in widths {
+        // No caller meets this: a function has no more variables than its locals and its points.
         if graph.vars() == u32::MAX {
             return Err(NoMemory);
         }
@@ -33,6 +34,7 @@ fn add_arrays(graph: &mut Graph, arrays: &[(u8, u32)]) -> Result<(), NoMemory>
     ensures { OnOk result (graph.new ≡ and_arrays graph.old arrays.now) }
 {
     for (width, count) in arrays {
+        // No caller meets this: each array has tokens of its own.
         if graph.arrays() == u32::MAX {
             return Err(NoMemory);
         }
@@ -70,6 +72,7 @@ fn follow(graph: &mut Graph, last: u32, line: Line) -> Result<u32, NoMemory>
     match line {
         Line::Start(block) => Ok(block),
         Line::Emit(op) => {
+            // No caller meets this: a program has at most 20 points for each of its tokens.
             if graph.points() == u32::MAX {
                 return Err(NoMemory);
             }

@@ -36,6 +36,8 @@ pub fn plus(a: u32, b: u32) -> Result<u32, NoMemory>
 {
     match a.checked_add(b) {
         Some(sum) => Ok(sum),
+        // No caller meets this: a program has at most 20 points for each of its tokens, and no more blocks or
+        // variables.
         None => Err(NoMemory),
     }
 }

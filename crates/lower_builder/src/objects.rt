@@ -57,5 +57,6 @@ pub fn text_count(site: &Site<'_>, array: u32, object: u32) -> Result<i32, NoMem
         Some(array) => array.count as usize,
         None => 0,
     };
+    // This number is never refused: an array in a frame has at most 16,384 elements.
     i32::try_from(room.min(held)).map_err(|_| NoMemory)
 }

@@ -50,6 +50,7 @@ impl Site<'_> {
     {
         match level.checked_mul(5) {
             Some(above) => plus(plus(self.first, above)?, place),
+            // No caller meets this: a level is no more than the height of a tree.
             None => Err(NoMemory),
         }
     }

@@ -53,6 +53,7 @@ impl Ahead {
         ensures { IfOk result (λ _. self.new ≡ self.old) }
     {
         let place = self.at;
+        // This sum is never refused: each place that is named ahead is a block of its own.
         self.at = place.checked_add(1).ok_or(NoMemory)?;
         match self.known.get(place).copied() {
             Some(block) => Ok((place, block)),

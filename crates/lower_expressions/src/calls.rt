@@ -101,6 +101,7 @@ pub fn call_made(
         Wanted::Tests(_, _) => match of {
             ValueType::Void => lines.emit(Op::Call(None, f, words)),
             ValueType::Integer(t) => taken_tested(lines, site, level, wanted, t, f, words),
+            // No caller meets this: no function of a typed program has a pointer as its result.
             ValueType::Pointer(_) => Err(NoMemory),
         },
     }

@@ -82,6 +82,7 @@ fn line_of_evaluation(alloc: Global, program: &Program, turns: u64) -> Result<Ve
         },
         EvalEnd::Trapped(trap) => Err(Report::Trapped(trap)),
         EvalEnd::TurnsSpent => Err(Report::BudgetSpent(turns)),
+        // No fault comes from `SureSource`, nor from a `MemSink` that is told no failing call: memory is wanting.
         EvalEnd::ReadFault | EvalEnd::WriteFault | EvalEnd::NoMemory => Err(Report::NoMemory),
     }
 }

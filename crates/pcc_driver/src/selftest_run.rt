@@ -72,6 +72,7 @@ pub fn line_of_run(alloc: Global, image: Vec<u8>, most: u64) -> Result<Vec<u8>, 
         MachineEnd::Stopped(cause, address) => Err(Report::Stopped(cause, address)),
         MachineEnd::BudgetSpent => Err(Report::BudgetSpent(most)),
         MachineEnd::ReadFault | MachineEnd::WriteFault | MachineEnd::NoMemory => {
+            // No fault comes from `SureSource`, nor from a `MemSink` that is told no failing call: memory is wanting.
             Err(Report::NoMemory)
         }
     }
