@@ -8,9 +8,13 @@ use ia32_insn::{AluOp, Item, Reg32};
 use pcc_base::NoMemory;
 
 const EAX: Location = Location::Word(Reg32::Eax);
+
 const ECX: Location = Location::Word(Reg32::Ecx);
+
 const EBX: Location = Location::Word(Reg32::Ebx);
+
 const SLOT: Location = Location::Slot(-20);
+
 const OTHER: Location = Location::Slot(-24);
 
 /// Two registers are added by LEA, to a slot by ESI, and without it where the result stands in one of them.
