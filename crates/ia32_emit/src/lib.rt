@@ -5,8 +5,8 @@
 //! `specs/Accesses.antt` and `specs/Passing.antt` of `ia32_rows`). The only refusal is want of memory.
 //!
 //! `locations`, `moves` and `instructions` have what all rows are made of, `compared_words` and `comparisons`
-//! comparisons, `products`, `shifts` and `divisions` what is computed, `checks`, `loads`, `stores` and `storing`
-//! accesses, `argument_words`, `calls` and `returns` calls, and `prologues` a function's first items.
+//! comparisons, `operations`, `products`, `shifts` and `divisions` what is computed, `checks`, `loads`, `stores` and
+//! `storing` accesses, `argument_words`, `calls` and `returns` calls, and `prologues` a function's first items.
 #![tactic(auto)]
 
 mod argument_words;
@@ -19,6 +19,7 @@ mod instructions;
 mod loads;
 mod locations;
 mod moves;
+mod operations;
 mod products;
 mod prologues;
 mod returns;
@@ -33,9 +34,8 @@ pub use comparisons::{emit_branch, emit_set};
 pub use instructions::{emit, emit_insns, emit_three, emit_two};
 pub use loads::{emit_get, emit_load};
 pub use locations::{Location, at_offset, at_register};
-pub use moves::{
-    emit_commuting, emit_copy, emit_copy_byte, emit_number, emit_operate, emit_operation,
-};
+pub use moves::{emit_copy, emit_copy_byte, emit_number, emit_operate};
+pub use operations::{emit_commuting, emit_operation, emit_sum};
 pub use products::{emit_complement, emit_half, emit_low, emit_negation, emit_product};
 pub use prologues::emit_prologue;
 pub use returns::{emit_leave, emit_return};

@@ -4,7 +4,7 @@ ghost use Rattle.std.specs.Prelude.{◌≡◌, ◌==◌, ◌&&◌, ◌%◌};
 ghost use Rattle.ia32_insn.specs.Items.{near};
 ghost use Rattle.ia32_insn.specs.Registers.{number32, number8};
 ghost use Rattle.ia32_rows.specs.Placements.{below};
-ghost use Rattle.ia32_rows.specs.Rows.{is_in, working, target_of, has_operand, low_byte};
+ghost use Rattle.ia32_rows.specs.Rows.{is_at, is_in, working, target_of, has_operand, low_byte};
 ghost use Rattle.ia32_emit.specs.Locations.{distance, place_of};
 
 use ia32_insn::{Mem, Reg8, Reg32};
@@ -73,6 +73,23 @@ pub fn is_in(register: Reg32, location: Location) -> bool
     }
 }
 
+/// How far below EBP an offset is: 0 for one that isn't below.
+fn distance_of(offset: i32) -> u32
+    ensures { result ≡ distance offset }
+{
+    if offset < 0 { offset.unsigned_abs() } else { 0 }
+}
+
+/// Whether a location is the slot at an offset.
+pub fn is_at(offset: i32, location: Location) -> bool
+    ensures { result ≡ is_at (distance offset) (place_of location) }
+{
+    match location {
+        Location::Slot(other) => distance_of(other) == distance_of(offset),
+        Location::Word(_) | Location::Byte(_) => false,
+    }
+}
+
 /// The register that an operation works in.
 pub fn working(result_location: Location, first: Location, second: Location) -> Reg32
     ensures { result ≡ working (place_of result_location) (place_of first) (place_of second) }
@@ -99,13 +116,14 @@ pub fn target_of(result_location: Location) -> Reg32
     }
 }
 
-/// Whether the result's register has the operand.
+/// Whether the operand stands where the result will.
 pub fn has_operand(result_location: Location, operand: Location) -> bool
     ensures { result ≡ has_operand (place_of result_location) (place_of operand) }
 {
     match result_location {
         Location::Word(r) => is_in(r, operand),
-        Location::Byte(_) | Location::Slot(_) => false,
+        Location::Byte(_) => false,
+        Location::Slot(offset) => is_at(offset, operand),
     }
 }
 

@@ -3,12 +3,12 @@
 ghost use Rattle.std.specs.Prelude.{◌≡◌, ◌++◌, OnOk};
 ghost use Rattle.std.specs.Prelude.{◌%◌};
 ghost use Rattle.std.specs.Int.{w32, cast_unsigned};
-ghost use Rattle.ia32_rows.specs.Rows.{read, write, operate, number_row, copy_row, operation, commuting, pass};
+ghost use Rattle.ia32_rows.specs.Rows.{read, write, operate, number_row, copy_row, pass};
 ghost use Rattle.ia32_emit.specs.Locations.{place_of};
 ghost use Rattle.ia32_emit.specs.declared.locations.Location.TheVariants as location;
 
 use crate::instructions::{emit, emit_two};
-use crate::locations::{Location, at_offset, has_operand, is_same, working};
+use crate::locations::{Location, at_offset, is_same};
 use ia32_insn::{AluOp, Insn, Item, Reg8, Reg32, Rm8, Rm32};
 use pcc_base::NoMemory;
 
@@ -66,41 +66,6 @@ pub fn emit_operate(
             Insn::Alu(how, Rm32::Reg(register), Reg32::Edi),
         ),
         Location::Slot(offset) => emit(out, Insn::AluLoad(how, register, at_offset(offset))),
-    }
-}
-
-/// The first operand to a register, the operation, and the result to its place.
-pub fn emit_operation(
-    out: &mut Vec<Item>,
-    how: AluOp,
-    to: Location,
-    first: Location,
-    second: Location,
-) -> Result<(), NoMemory>
-    ensures { OnOk result (out.new.items
-        ≡ out.old.items ++ operation how (place_of to) (place_of first) (place_of second)) }
-{
-    let register = working(to, first, second);
-    emit_read(out, register, first)?;
-    emit_operate(out, how, register, second)?;
-    emit_write(out, to, register)
-}
-
-/// The same, of operands that commute.
-pub fn emit_commuting(
-    out: &mut Vec<Item>,
-    how: AluOp,
-    to: Location,
-    first: Location,
-    second: Location,
-) -> Result<(), NoMemory>
-    ensures { OnOk result (out.new.items
-        ≡ out.old.items ++ commuting how (place_of to) (place_of first) (place_of second)) }
-{
-    if has_operand(to, second) {
-        emit_operation(out, how, to, second, first)
-    } else {
-        emit_operation(out, how, to, first, second)
     }
 }
 

@@ -2,12 +2,12 @@
 
 ghost use Rattle.std.specs.Prelude.{◌≡◌, ◌++◌, OnOk};
 ghost use Rattle.ia32_insn.specs.declared.insn.Insn.TheVariants as insn;
-ghost use Rattle.ia32_rows.specs.Rows.{multiply, multiplying, changing, lowering, extend_half, halving};
+ghost use Rattle.ia32_rows.specs.Rows.{multiply, product_of, multiplying, changing, lowering, extend_half, halving};
 ghost use Rattle.ia32_emit.specs.Locations.{place_of};
 ghost use Rattle.ia32_emit.specs.declared.locations.Location.TheVariants as location;
 
 use crate::instructions::{emit, emit_two};
-use crate::locations::{Location, at_offset, low_byte, target_of, working};
+use crate::locations::{Location, at_offset, is_in, low_byte, target_of, working};
 use crate::moves::{emit_copy, emit_copy_byte, emit_read, emit_write};
 use ia32_insn::{Insn, Item, Reg8, Reg32, Rm8, Rm32};
 use pcc_base::NoMemory;
@@ -27,6 +27,22 @@ fn emit_multiply(out: &mut Vec<Item>, register: Reg32, second: Location) -> Resu
     }
 }
 
+/// The product of two words, with the first one in the row's register.
+fn emit_product_of(
+    out: &mut Vec<Item>,
+    to: Location,
+    first: Location,
+    second: Location,
+) -> Result<(), NoMemory>
+    ensures { OnOk result (out.new.items
+        ≡ out.old.items ++ product_of (place_of to) (place_of first) (place_of second)) }
+{
+    let register = working(to, first, second);
+    emit_read(out, register, first)?;
+    emit_multiply(out, register, second)?;
+    emit_write(out, to, register)
+}
+
 /// The product of two words.
 pub fn emit_product(
     out: &mut Vec<Item>,
@@ -37,10 +53,11 @@ pub fn emit_product(
     ensures { OnOk result (out.new.items
         ≡ out.old.items ++ multiplying (place_of to) (place_of first) (place_of second)) }
 {
-    let register = working(to, first, second);
-    emit_read(out, register, first)?;
-    emit_multiply(out, register, second)?;
-    emit_write(out, to, register)
+    if is_in(target_of(to), second) {
+        emit_product_of(out, to, second, first)
+    } else {
+        emit_product_of(out, to, first, second)
+    }
 }
 
 /// The negation of a word.

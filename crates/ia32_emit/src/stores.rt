@@ -6,7 +6,7 @@ ghost use Rattle.ia32_emit.specs.Locations.{place_of};
 
 use crate::checks::{element, emit_checking, index_register};
 use crate::locations::{Location, target_of};
-use crate::storing::emit_store_behind;
+use crate::storing::emit_store_at;
 use flow_graph::Bits;
 use ia32_insn::Item;
 use pcc_base::NoMemory;
@@ -24,5 +24,5 @@ pub fn emit_store(
 {
     emit_checking(out, array, index)?;
     let to = element(bits, target_of(array), index_register(index));
-    emit_store_behind(out, bits, to, value)
+    emit_store_at(out, bits, to, value)
 }

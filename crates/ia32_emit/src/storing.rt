@@ -5,7 +5,7 @@ ghost use Rattle.flow_graph.specs.declared.op.Bits.TheVariants.{Eight};
 ghost use Rattle.ia32_insn.specs.Items.{plain};
 ghost use Rattle.ia32_insn.specs.declared.insn.Insn.TheVariants as insn;
 ghost use Rattle.ia32_insn.specs.declared.register_names.Reg32.TheVariants.{Edi};
-ghost use Rattle.ia32_rows.specs.Rows.{frame_row, static_row, storing, store_to, put_row};
+ghost use Rattle.ia32_rows.specs.Rows.{frame_row, static_row, storing, store_at, store_to, put_row};
 ghost use Rattle.ia32_emit.specs.Locations.{distance, place_of};
 
 use crate::instructions::{emit, emit_all, emit_three};
@@ -33,39 +33,30 @@ pub fn emit_static(out: &mut Vec<Item>, to: Location, object: u32) -> Result<(),
     emit_write(out, to, register)
 }
 
-/// A value's low byte to the address in EDI.
-fn emit_store_byte(out: &mut Vec<Item>, value: Location) -> Result<(), NoMemory>
-    ensures { OnOk result (out.new.items ≡ out.old.items ++ storing Eight (place_of value)) }
+/// A value's low byte to memory.
+fn emit_store_byte(out: &mut Vec<Item>, to: Mem, value: Location) -> Result<(), NoMemory>
+    ensures { OnOk result (out.new.items ≡ out.old.items ++ storing Eight to (place_of value)) }
 {
     match value {
-        Location::Word(r) => emit(
-            out,
-            Insn::Mov8(Rm8::Mem(at_register(Reg32::Edi)), low_byte(r)),
-        ),
-        Location::Byte(r) => emit(out, Insn::Mov8(Rm8::Mem(at_register(Reg32::Edi)), r)),
+        Location::Word(r) => emit(out, Insn::Mov8(Rm8::Mem(to), low_byte(r))),
+        Location::Byte(r) => emit(out, Insn::Mov8(Rm8::Mem(to), r)),
         Location::Slot(_) => emit_three(
             out,
             Insn::Xchg(Rm32::Reg(Reg32::Esi), Reg32::Eax),
-            Insn::Mov8(Rm8::Mem(at_register(Reg32::Edi)), Reg8::Al),
+            Insn::Mov8(Rm8::Mem(to), Reg8::Al),
             Insn::Xchg(Rm32::Reg(Reg32::Esi), Reg32::Eax),
         ),
     }
 }
 
-/// The low bits of the value's register to the address in EDI.
-fn emit_storing(out: &mut Vec<Item>, bits: Bits, value: Location) -> Result<(), NoMemory>
-    ensures { OnOk result (out.new.items ≡ out.old.items ++ storing bits (place_of value)) }
+/// The low bits of the value's register to memory.
+fn emit_storing(out: &mut Vec<Item>, bits: Bits, to: Mem, value: Location) -> Result<(), NoMemory>
+    ensures { OnOk result (out.new.items ≡ out.old.items ++ storing bits to (place_of value)) }
 {
     match bits {
-        Bits::Eight => emit_store_byte(out, value),
-        Bits::Sixteen => emit(
-            out,
-            Insn::Mov16(Rm32::Mem(at_register(Reg32::Edi)), target_of(value)),
-        ),
-        Bits::ThirtyTwo => emit(
-            out,
-            Insn::Mov(Rm32::Mem(at_register(Reg32::Edi)), target_of(value)),
-        ),
+        Bits::Eight => emit_store_byte(out, to, value),
+        Bits::Sixteen => emit(out, Insn::Mov16(Rm32::Mem(to), target_of(value))),
+        Bits::ThirtyTwo => emit(out, Insn::Mov(Rm32::Mem(to), target_of(value))),
     }
 }
 
@@ -74,7 +65,7 @@ fn emit_store_to(out: &mut Vec<Item>, bits: Bits, value: Location) -> Result<(),
     ensures { OnOk result (out.new.items ≡ out.old.items ++ store_to bits (place_of value)) }
 {
     emit_read(out, target_of(value), value)?;
-    emit_storing(out, bits, value)
+    emit_storing(out, bits, at_register(Reg32::Edi), value)
 }
 
 /// A value to a static object of one element.
@@ -91,7 +82,7 @@ pub fn emit_put(
 }
 
 /// The address of an element to EDI, and a value on to it.
-pub fn emit_store_behind(
+fn emit_store_behind(
     out: &mut Vec<Item>,
     bits: Bits,
     to: Mem,
@@ -102,4 +93,19 @@ pub fn emit_store_behind(
 {
     emit(out, Insn::Lea(Reg32::Edi, to))?;
     emit_store_to(out, bits, value)
+}
+
+/// A value to an element: directly, where it stands in a register.
+pub fn emit_store_at(
+    out: &mut Vec<Item>,
+    bits: Bits,
+    to: Mem,
+    value: Location,
+) -> Result<(), NoMemory>
+    ensures { OnOk result (out.new.items ≡ out.old.items ++ store_at bits to (place_of value)) }
+{
+    match value {
+        Location::Word(_) => emit_storing(out, bits, to, value),
+        Location::Byte(_) | Location::Slot(_) => emit_store_behind(out, bits, to, value),
+    }
 }

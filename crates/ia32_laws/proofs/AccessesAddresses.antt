@@ -1,7 +1,7 @@
 -- The machine follows the ops that take the address of a frame array and of a static object.
-use Rattle.std.proofs.Common.{false, ◌≡◌, ℕ, zero, suc, ◌+◌, ◌-◌, ◌*◌, ◌^◌, ◌<◌, ◌≤◌, ℤ, List, [], ◌∷◌, ◌++◌}
+use Rattle.std.proofs.Common.{false, ◌≡◌, ℕ, zero, suc, ◌+◌, ◌-◌, ◌*◌, ◌^◌, ◌<◌, ◌≤◌, ℤ, List, [], ◌∷◌}
 use Rattle.std.proofs.Common.{length, Option, Some, inl, inr, refl, sym, ap, subst, ◌∙◌, arith}
-use Rattle.std.specs.Prelude.{⊤, slice_get, slice_index_or}
+use Rattle.std.specs.Prelude.{slice_get, slice_index_or}
 use Rattle.std.specs.Int.{w32, cast_unsigned}
 use Rattle.std.proofs.lemmas.Option.{get_or_from_slice_get, none-some, same_Some}
 use Rattle.pcc_base.specs.Objects.{Object}
@@ -11,7 +11,6 @@ use Rattle.pcc_base.specs.declared.run.Width.TheVariants.{Two}
 use Rattle.pcc_base.proofs.Lists.{element-at}
 use Rattle.ia32_insn.specs.declared.register_names.Reg32.{Reg32}
 use Rattle.ia32_insn.specs.declared.register_names.Reg32.TheVariants.{Ebp}
-use Rattle.ia32_insn.specs.Places.{Place}
 use Rattle.ia32_insn.specs.declared.operand.Rm32.TheVariants as rm
 use Rattle.ia32_insn.specs.declared.insn.Insn.TheVariants as insn
 use Rattle.ia32_insn.specs.declared.item.Item.{Item}
@@ -34,11 +33,8 @@ use Rattle.ia32_rows.specs.Sites.{Framed, Site}
 use Rattle.ia32_rows.proofs.Frames.{below-address}
 use Rattle.ia32_rows.proofs.Sound.{sound-with_word, word-below}
 use Rattle.ia32_rows.specs.Rows.{frame_row, place_after, static_row, target_of, write}
-use Rattle.ia32_rows.specs.Effects.{Makes, OutsideWord}
-use Rattle.ia32_rows.specs.Contains.{IsPlaceIn}
-use Rattle.ia32_rows.specs.Laws.{Gives, Puts}
+use Rattle.ia32_rows.specs.Effects.{Makes}
 use Rattle.ia32_rows.proofs.Instructions.{number-makes}
-use Rattle.ia32_rows.proofs.Kept.{other-cells}
 use Rattle.ia32_rows.proofs.Moves.{gives-word}
 use Rattle.ia32_laws.proofs.Landing.{followed}
 use Rattle.ia32_laws.specs.Supports.{IsSupported, site_of}
@@ -48,21 +44,11 @@ use Rattle.ia32_laws.proofs.Ops.{at-after, op-is}
 use Rattle.ia32_laws.proofs.Puts.{IsLow, puts-follow}
 use Rattle.ia32_laws.proofs.Shown.{point-supported}
 use Rattle.ia32_laws.proofs.Zones.{shown-in-frame}
-use Rattle.ia32_laws.proofs.Goes.{goes-of, puts-plain, target-within, target-works, then-written}
+use Rattle.ia32_rows.proofs.Sums.{target-puts, target-works}
 use Rattle.ia32_laws.specs.AccessesLaws.{FramePuts}
 use Rattle.ia32_laws.specs.AccessesOps.{FrameFollows, StaticFollows}
 
 -- ---- rows that give a register a word
-
--- what gives the row's register a word puts it in the result's place
-pub given-puts : (site : Site) (frame : ℕ) (items : List Item) (p : Place) (w : ℕ) (s : State) → 16 ≤ frame
-    → IsPlaceIn frame p → ((m : State) × Gives site frame items (target_of p) w s m)
-    → (u : State) × Puts site frame (items ++ write p (target_of p)) p w s u
-given-puts site frame items p w s room to (m, g) =
-    let t : Reg32 = target_of p in
-    let last = then-written (OutsideWord t) (λ c. ⊤) site frame items p t w s m (goes-of site frame items t w s m g)
-    (other-cells Ebp t (target-works frame p to).1) (λ k h q. target-within p k h) room to g.value in
-    (last.0, puts-plain site frame (items ++ write p t) p w s last.0 last.1)
 
 -- LEA of a place below EBP
 address-makes : (site : Site) (frame : ℕ) (r : Reg32) (k : ℕ) (s : State) → Framed site frame s → 0 < k → k ≤ frame
@@ -81,7 +67,7 @@ pub frame-puts : FramePuts
 frame-puts site frame p k s framed room to some within =
     let t : Reg32 = target_of p in
     let base = word-below site.text site.low site.high Ebp s framed.sound in
-    given-puts site frame (plain (insn.Lea t (below k)) ∷ []) p (word_of Ebp s - k) s room to
+    target-puts site frame (plain (insn.Lea t (below k)) ∷ []) p (word_of Ebp s - k) s room to
     (gives-word site frame (insn.Lea t (below k)) t (word_of Ebp s - k) s framed (target-works frame p to)
     (omega (arith, base)) (address-makes site frame t k s framed some within))
 
@@ -262,7 +248,7 @@ static-follows d k code input g s supported state shown has r =
     (lt, subst (λ (a : ℕ). slice_get code.symbols.objects k ≡ Some a) same there.placed) in
     puts-follow code input g s o d w value place (plain (insn.MovImm (rm.Reg t) z) ∷ write place t) supported state
     shown has refl (λ next h. h) named.row at
-    (given-puts site frame (plain (insn.MovImm (rm.Reg t) z) ∷ []) place w s four for.inside
+    (target-puts site frame (plain (insn.MovImm (rm.Reg t) z) ∷ []) place w s four for.inside
     (gives-word site frame (insn.MovImm (rm.Reg t) z) t w s framed (target-works frame place for.inside) small
     (number-makes site t z s framed.sound)))
     (subst (λ (v : Option Width). IsLow code (active_of g) shown.frames v value w) (sym fits.0) is) tt)

@@ -37,9 +37,9 @@ use Rattle.ia32_rows.proofs.Straight.{straight-goes}
 use Rattle.ia32_laws.proofs.Goes.{Goes, goes-of, goes-stricter, goes-then}
 use Rattle.ia32_laws.proofs.Traps.{check-passes, check-traps}
 use Rattle.ia32_laws.specs.AccessesLaws.{FailsAccess, OutsideScratch}
-use Rattle.ia32_laws.proofs.Elements.{all-memory, ebp-outside, edi-works, scratch-outside}
+use Rattle.ia32_laws.proofs.Elements.{all-memory, ebp-outside, scratch-outside}
 use Rattle.ia32_laws.proofs.Loading.{loaded-at}
-use Rattle.ia32_laws.proofs.Storing.{target-general, target-read}
+use Rattle.ia32_laws.proofs.Storing.{edi-works, target-general, target-read}
 
 -- ---- on the way
 

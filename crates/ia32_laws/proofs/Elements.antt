@@ -43,7 +43,6 @@ use Rattle.ia32_rows.proofs.Sound.{load-place, load-same, sound-at}
 use Rattle.ia32_rows.specs.Rows.{put_row, store_to}
 use Rattle.ia32_rows.specs.Effects.{Keeps, OutsideWord}
 use Rattle.ia32_rows.specs.Contains.{IsPlaceIn}
-use Rattle.ia32_rows.specs.Laws.{IsWorking}
 use Rattle.ia32_rows.proofs.Instructions.{number-makes}
 use Rattle.ia32_rows.proofs.Kept.{HasCells, PlaceHasCells, PlaceHasMemory, contains-kept, keeps-stricter, keeps-then}
 use Rattle.ia32_rows.proofs.Kept.{word-kept}
@@ -64,7 +63,7 @@ use Rattle.ia32_laws.specs.AccessesLaws.{OutsideScratch}
 use Rattle.ia32_laws.specs.AccessesOps.{PutFollows}
 use Rattle.ia32_laws.proofs.AccessesAddresses.{HasObject, has-object, named-row, object-named, object-within}
 use Rattle.ia32_laws.proofs.Loading.{given-any, given-width, static-elements}
-use Rattle.ia32_laws.proofs.Storing.{element-stores}
+use Rattle.ia32_laws.proofs.Storing.{edi-works, element-stores}
 
 -- ---- registers
 
@@ -264,9 +263,6 @@ stored-low Sixteen n fits =
 stored-low ThirtyTwo n fits = refl
 
 -- ---- the op
-
-pub edi-works : IsWorking Edi
-edi-works = ((λ e. omega arith), (λ e. omega arith))
 
 -- an element of an object or an array is in the data
 pub element-high : (code : Code) (f : ℕ) (s : machine.State) (width address i v : ℕ) → SoundAt (site_of code f) s

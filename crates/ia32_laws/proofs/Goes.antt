@@ -9,7 +9,7 @@ use Rattle.ia32_insn.specs.declared.register_names.Reg32.TheVariants.{Eax, Ecx, 
 use Rattle.ia32_insn.specs.declared.register_names.Reg8.{Reg8}
 use Rattle.ia32_insn.specs.declared.register_names.Reg8.TheVariants.{Al, Cl, Dl, Bl, Ah, Ch, Dh, Bh}
 use Rattle.ia32_insn.specs.Registers.{AreRegisters, number8, number32, byte_place}
-use Rattle.ia32_insn.specs.Places.{Place, InWord, InByte, InSlot, IsGeneral}
+use Rattle.ia32_insn.specs.Places.{Place, IsGeneral}
 use Rattle.ia32_insn.specs.declared.flags.Flags.{Flags}
 use Rattle.ia32_insn.specs.declared.insn.Insn.{Insn}
 use Rattle.ia32_insn.specs.declared.item.Item.{Item}
@@ -24,9 +24,9 @@ use Rattle.ia32_rows.specs.Contains.{ApartFromPlace, IsPlaceIn, Untouched}
 use Rattle.ia32_rows.specs.Laws.{Gives, IsWorking, Puts}
 use Rattle.ia32_rows.proofs.Kept.{HasCells, framed-kept, keeps-stricter, keeps-then, other-cells, result-keeps}
 use Rattle.ia32_rows.proofs.Kept.{word-kept}
-use Rattle.ia32_rows.proofs.Moves.{general-works, write-puts}
+use Rattle.ia32_rows.proofs.Moves.{write-puts}
 use Rattle.ia32_rows.proofs.Straight.{leads-join}
-use Rattle.ia32_rows.specs.Rows.{target_of}
+pub use Rattle.ia32_rows.proofs.Sums.{target-within, target-works}
 use Rattle.ia32_rows.specs.Rows.{low_byte}
 use Rattle.ia32_laws.specs.CoresLaws.{PutsBeside}
 
@@ -112,17 +112,6 @@ puts-plain site frame items p w s u h =
       keeps = keeps-stricter (λ k. Untouched p k × ⊤) (Untouched p) (ApartFromPlace (word_of Ebp s) p)
           (ApartFromPlace (word_of Ebp s) p) s u (λ k q. (q, tt)) (λ a n l. l) h.keeps;
     }
-
--- the register of a row with one operand may be changed, and is in the place, or scratch
-pub target-works : (frame : ℕ) (p : Place) → IsPlaceIn frame p → IsWorking (target_of p)
-target-works frame (InWord r) placed = general-works r placed
-target-works frame (InByte r) placed = ((λ e. omega arith), (λ e. omega arith))
-target-works frame (InSlot k) placed = ((λ e. omega arith), (λ e. omega arith))
-
-pub target-within : (p : Place) (k : ℕ) → Untouched p k → OutsideWord (target_of p) k
-target-within (InWord r) k h = h.0
-target-within (InByte r) k h = h.1
-target-within (InSlot b) k h = h.1
 
 -- ---- bytes
 

@@ -42,7 +42,7 @@ use Rattle.ia32_rows.specs.Laws.{Gives, IsWorking, Puts}
 use Rattle.ia32_rows.proofs.Instructions.{number-makes}
 use Rattle.ia32_rows.proofs.Kept.{other-cells}
 use Rattle.ia32_rows.proofs.Moves.{gives-word}
-use Rattle.ia32_rows.proofs.Sums.{esi-works}
+use Rattle.ia32_rows.proofs.Sums.{esi-works, target-puts}
 use Rattle.ia32_laws.specs.Supports.{site_of}
 use Rattle.ia32_laws.proofs.Ops.{at-after, op-is}
 use Rattle.ia32_laws.proofs.Puts.{IsLow, puts-follow}
@@ -54,7 +54,7 @@ use Rattle.ia32_laws.proofs.Goes.{then-written}
 use Rattle.ia32_laws.proofs.Numbers.{low-half-is}
 use Rattle.ia32_laws.specs.AccessesLaws.{LoadPuts, widened}
 use Rattle.ia32_laws.specs.AccessesOps.{GetFollows}
-use Rattle.ia32_laws.proofs.AccessesAddresses.{HasObject, given-puts, has-object, named-row, object-named}
+use Rattle.ia32_laws.proofs.AccessesAddresses.{HasObject, has-object, named-row, object-named}
 use Rattle.ia32_laws.proofs.AccessesAddresses.{object-within}
 
 -- ---- words of elements
@@ -163,7 +163,7 @@ loading-gives site frame bits t m address v s framed works at held small =
 
 pub load-puts : LoadPuts
 load-puts site frame bits p m address v s framed room to at held small =
-    given-puts site frame (plain (loading bits (target_of p) m) ∷ []) p (widened bits v) s room to
+    target-puts site frame (plain (loading bits (target_of p) m) ∷ []) p (widened bits v) s room to
     (loading-gives site frame bits (target_of p) m address v s framed (target-works frame p to) at held small)
 
 -- ---- a static object of one element

@@ -1,6 +1,6 @@
 -- The machine follows single ops.
 use Rattle.std.proofs.Common.{◌≡◌, ℕ, ◌^◌, ◌<◌, ◌≤◌, ℤ, List, Option, Some, None, Ok}
-use Rattle.std.proofs.Common.{false, inl, inr, refl, sym, ap, subst, ◌∙◌, arith}
+use Rattle.std.proofs.Common.{false, inl, inr, refl, sym, ap, subst, ◌∙◌}
 use Rattle.std.specs.Prelude.{FitsSigned, slice_get, unwrap_or}
 use Rattle.std.specs.Int.{w8, w32, cast_unsigned}
 use Rattle.std.proofs.lemmas.Int.{SFits-int_wrap}
@@ -15,7 +15,7 @@ use Rattle.ia32_insn.specs.declared.insn.AluOp.{AluOp}
 use Rattle.ia32_insn.specs.declared.insn.AluOp.TheVariants as alu
 use Rattle.ia32_insn.specs.declared.item.Item.{Item}
 use Rattle.ia32_insn.specs.State as machine
-use Rattle.ia32_insn.specs.Arithmetic.{alu_value, product}
+use Rattle.ia32_insn.specs.Arithmetic.{alu_value, product, sum}
 use Rattle.ia32_insn.specs.Meaning.{word_of}
 use Rattle.flow_graph.specs.declared.op.Op.{Op}
 use Rattle.flow_graph.specs.declared.op.Op.TheVariants as op
@@ -30,11 +30,11 @@ use Rattle.ia32_laws.proofs.Landing.{FollowsKept, followed}
 use Rattle.ia32_rows.specs.Placements.{Code, placement_of}
 use Rattle.ia32_rows.specs.Shows.{Shows, StandsIn}
 use Rattle.ia32_rows.specs.Sites.{Framed, Site}
-use Rattle.ia32_rows.specs.Rows.{commuting, multiplying, number_row, operation}
+use Rattle.ia32_rows.specs.Rows.{adding, commuting, multiplying, number_row, operation}
 use Rattle.ia32_rows.specs.Contains.{Contains, HoldsWord, IsPlaceIn}
 use Rattle.ia32_rows.specs.Laws.{IsWriting, Puts}
 use Rattle.ia32_rows.proofs.Moves.{number-puts}
-use Rattle.ia32_rows.proofs.Sums.{commuting-puts, operation-puts}
+use Rattle.ia32_rows.proofs.Sums.{commuting-puts, operation-puts, sum-puts}
 use Rattle.ia32_rows.proofs.Multiplying.{product-puts}
 use Rattle.ia32_laws.proofs.Words.{product-computed}
 use Rattle.ia32_laws.specs.Supports.{HoldsWidth, IsSupported, site_of}
@@ -219,8 +219,10 @@ pub sum-follows : SumFollows
 sum-follows d a b code input g s supported state shown has r =
     followed code input g s (op.Add d a b) false supported state has (
     let fits = (op-is code g (op.Add d a b) supported state has).fits in
-    operation-follows (alu_value alu.Add) (commuting alu.Add) _ (op.Add d a b) d a b code input g s
-    (commuting-result alu.Add tt (λ x y. omega arith)) sum-computed refl (inl refl) (inr (inl refl)) (λ next h. h)
+    operation-follows sum adding _ (op.Add d a b) d a b code input g s
+    (λ site frame p q v x y t framed room to f f_placed h h_placed one two small also all.
+    sum-puts site frame p q v x y t framed room to f f_placed h h_placed one two small also) sum-computed refl
+    (inl refl) (inr (inl refl)) (λ next h. h)
     fits.0 fits.1.0 fits.1.1.0 supported state shown has r)
 
 pub difference-follows : DifferenceFollows

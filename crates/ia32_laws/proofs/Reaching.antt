@@ -1,5 +1,5 @@
 -- The machine follows loads and stores of elements through their rows.
-use Rattle.std.proofs.Common.{◌≡◌, ℕ, ◌+◌, ◌*◌, ◌%◌, ◌^◌, ◌<◌, ◌≤◌, ℤ, false, List, [], ◌∷◌, ◌++◌}
+use Rattle.std.proofs.Common.{◌≡◌, ℕ, ◌+◌, ◌*◌, ◌%◌, ◌^◌, ◌<◌, ◌≤◌, ℤ, false, List, ◌++◌}
 use Rattle.std.proofs.Common.{length, Option, Some, Ok, inl, inr, refl, sym, ap, subst, ◌∙◌, arith, append_assoc}
 use Rattle.std.specs.Prelude.{Result, slice_get, slice_set}
 use Rattle.std.specs.Int.{w32, cast_unsigned}
@@ -9,16 +9,14 @@ use Rattle.pcc_base.specs.Objects.{FitsBytes}
 use Rattle.pcc_base.specs.Outcome.{ArrayName, End, Number}
 use Rattle.pcc_base.specs.declared.run.Width.{Width}
 use Rattle.pcc_base.specs.declared.run.Width.TheVariants.{Two}
-use Rattle.ia32_insn.specs.declared.register_names.Reg32.TheVariants.{Ebp, Edi}
+use Rattle.ia32_insn.specs.declared.register_names.Reg32.TheVariants.{Ebp}
 use Rattle.ia32_insn.specs.Places.{Place}
 use Rattle.ia32_insn.specs.declared.operand.Mem.{Mem}
-use Rattle.ia32_insn.specs.declared.insn.Insn.TheVariants as insn
 use Rattle.ia32_insn.specs.declared.item.Item.{Item}
 use Rattle.ia32_insn.specs.State as machine
 use Rattle.ia32_insn.specs.State.{at_address}
 use Rattle.ia32_insn.specs.Keeps.{AreDisjoint}
-use Rattle.ia32_insn.specs.Meaning.{address_of, load, with_word, word_of}
-use Rattle.ia32_insn.specs.Items.{plain}
+use Rattle.ia32_insn.specs.Meaning.{address_of, load, word_of}
 use Rattle.flow_graph.specs.declared.op.Bits.{Bits}
 use Rattle.flow_graph.specs.declared.op.Op.{Op}
 use Rattle.flow_graph.specs.declared.op.Op.TheVariants as op
@@ -32,14 +30,12 @@ use Rattle.ia32_laws.proofs.Landing.{FollowsKept, followed}
 use Rattle.ia32_rows.specs.Placements.{Code, placement_of}
 use Rattle.ia32_rows.specs.Shows.{IsArrayAt}
 use Rattle.ia32_rows.specs.Sites.{Anywhere, Framed, ReadyAt, Site}
-use Rattle.ia32_rows.proofs.Sound.{sound-with_word}
 use Rattle.ia32_rows.proofs.Steps.{comes-then}
-use Rattle.ia32_rows.specs.Rows.{checking, element, index_register, load_from, load_row, store_row, store_to, target_of}
-use Rattle.ia32_rows.specs.Effects.{Keeps, Makes, OutsideWord}
+use Rattle.ia32_rows.specs.Rows.{checking, element, index_register, load_from, load_row, store_at, store_row, target_of}
+use Rattle.ia32_rows.specs.Effects.{Keeps}
 use Rattle.ia32_rows.specs.Contains.{ApartFromPlace, Untouched}
 use Rattle.ia32_rows.proofs.Kept.{contains-kept, keeps-stricter, keeps-then, word-kept}
-use Rattle.ia32_rows.proofs.Moves.{gives-word}
-use Rattle.ia32_rows.proofs.Straight.{leads-join, straight-goes}
+use Rattle.ia32_rows.proofs.Straight.{straight-goes}
 use Rattle.ia32_laws.specs.Supports.{site_of}
 use Rattle.ia32_laws.specs.KeepsOps.{RowAt, before_at}
 use Rattle.ia32_laws.proofs.Ops.{HasNumber, at-after, at-before, has-number, op-is}
@@ -54,11 +50,11 @@ use Rattle.ia32_laws.proofs.Accessing.{HasArrayIn, IsThere, at-start, by-array, 
 use Rattle.ia32_laws.proofs.Accessing.{is-there}
 use Rattle.ia32_laws.proofs.Accessing.{element-bytes, reached-follows, some-bytes}
 use Rattle.ia32_laws.proofs.Checking.{Came, checks-pass, null-fails, past-fails}
-use Rattle.ia32_laws.proofs.Elements.{all-memory, ebp-outside, edi-outside, edi-works, element-high}
+use Rattle.ia32_laws.proofs.Elements.{all-memory, ebp-outside, element-high}
 use Rattle.ia32_laws.proofs.Elements.{scratch-outside}
 use Rattle.ia32_laws.proofs.Elements.{stored-follows, stored-low}
-use Rattle.ia32_laws.proofs.Loading.{element-small, element-word, given-any, load-puts, place-at}
-use Rattle.ia32_laws.proofs.Storing.{element-stores}
+use Rattle.ia32_laws.proofs.Loading.{element-small, element-word, given-any, load-puts}
+use Rattle.ia32_laws.proofs.Storing.{place-stores}
 
 -- the address of an element, by the array's word and the index in registers
 element-address : (code : Code) (f : ℕ) (bits : Bits) (p q : Place) (w i : ℕ) (u : machine.State)
@@ -205,17 +201,6 @@ load-follows bits d p i code input g s supported state shown has r =
 
 -- ---- stores
 
-lea-makes : (site : Site) (frame : ℕ) (mem : Mem) (a : ℕ) (s : machine.State) → Framed site frame s
-    → address_of mem s ≡ a → Makes site (insn.Lea Edi mem) s (with_word Edi a s)
-lea-makes site frame mem a s framed at =
-    subst (λ (b : ℕ). Makes site (insn.Lea Edi mem) s (with_word Edi b s)) at
-    (record {
-      straight = tt;
-      does = λ address. ap (λ (b : ℕ).
-          let q : Result machine.State End = Ok (with_word Edi b (at_address address s)) in q) (place-at mem address s);
-      sound = sound-with_word site.text site.low site.high Edi (address_of mem s) s framed.sound;
-    })
-
 pub store-follows : StoreFollows
 store-follows bits p i c code input g s supported state shown has r =
     followed code input g s (op.Store bits p i c) false supported state has (
@@ -278,7 +263,7 @@ store-follows bits p i c code input g s supported state shown has r =
         m = element (bytes_of bits) (target_of one.place) (index_register two.place)
 
         put : List Item
-        put = plain (insn.Lea Edi m) ∷ store_to bits three.place
+        put = store_at bits m three.place
 
         back : List Item
         back = put ++ row.rest
@@ -327,27 +312,17 @@ store-follows bits p i c code input g s supported state shown has r =
                 let at : address_of m u ≡ a =
                 element-address code g.current.function bits one.place two.place one.word k u pass.3 (pass.4 ∙ f) fits_a
                 in
-                let lea = gives-word site frame (insn.Lea Edi m) Edi a u pass.2.framed edi-works fits_a
-                (lea-makes site frame m a u pass.2.framed at) in
-                let v : machine.State = lea.0 in
-                let held_u = contains-kept OutsideScratch Anywhere s u Two three.place (cast_unsigned w32 x)
+                let held = contains-kept OutsideScratch Anywhere s u Two three.place (cast_unsigned w32 x)
                 pass.2.keeps ebp-outside (scratch-outside frame three.place three.inside)
                 (all-memory (word_of Ebp s) three.place) three.contains in
-                let held_v = contains-kept (OutsideWord Edi) Anywhere u v Two three.place (cast_unsigned w32 x)
-                lea.1.keeps (λ j below. (ebp-outside j below).1) (edi-outside frame three.place three.inside)
-                (all-memory (word_of Ebp u) three.place) held_u in
-                let puts = element-stores site frame bits three.place a (cast_unsigned w32 x) v lea.1.framed three.holds
-                three.inside held_v (word-fits x three.fits) lea.1.value (start one.word size k low) top in
+                let puts = place-stores site frame bits m three.place a (cast_unsigned w32 x) u pass.2.framed
+                three.holds three.inside held (word-fits x three.fits) at (start one.word size k low) top in
                 let t : machine.State = puts.0 in
                 let K : ℕ → ℕ → Type 0 = λ b l. AreDisjoint a size b l in
-                let went = straight-goes site put row.rest u t pass.1 pass.2.framed.sound pass.2.ready
-                (leads-join site (plain (insn.Lea Edi m) ∷ []) (store_to bits three.place) u v t lea.1.leads
-                puts.1.leads) in
+                let went = straight-goes site put row.rest u t pass.1 pass.2.framed.sound pass.2.ready puts.1.leads in
                 let keeps : Keeps OutsideScratch K s t = keeps-then OutsideScratch K s u t
                 (keeps-stricter OutsideScratch OutsideScratch Anywhere K s u (λ j h. h) (λ b l h. tt) pass.2.keeps)
-                (keeps-then OutsideScratch K u v t
-                (keeps-stricter (OutsideWord Edi) OutsideScratch Anywhere K u v (λ j h. h.1) (λ b l h. tt) lea.1.keeps)
-                puts.1.keeps) in
+                puts.1.keeps in
                 stored-follows code input g s t o array one.word size elements k (stored bits x) went.0 row.rest
                 supported
                 state shown has refl (λ next h. h) is one.is lt keeps

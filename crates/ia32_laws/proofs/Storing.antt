@@ -14,6 +14,7 @@ use Rattle.ia32_insn.specs.declared.register_names.Reg32.TheVariants.{Eax, Esp, 
 use Rattle.ia32_insn.specs.declared.register_names.Reg8.TheVariants.{Al}
 use Rattle.ia32_insn.specs.Registers.{AreRegisters, number32}
 use Rattle.ia32_insn.specs.Places.{Place, InWord, InByte, InSlot}
+use Rattle.ia32_insn.specs.declared.operand.Mem.{Mem}
 use Rattle.ia32_insn.specs.declared.operand.Rm32.TheVariants as rm
 use Rattle.ia32_insn.specs.declared.operand.Rm8.TheVariants as rm8
 use Rattle.ia32_insn.specs.declared.insn.Insn.{Insn}
@@ -30,18 +31,19 @@ use Rattle.flow_graph.specs.declared.op.Bits.TheVariants.{Eight, Sixteen, Thirty
 use Rattle.flow_graph.specs.Meaning.{bytes_of}
 use Rattle.ia32_rows.specs.Sites.{Anywhere, Framed, Site, SoundAt, data_from}
 use Rattle.ia32_rows.proofs.Sound.{areas-apart, load-in, sound-with_word, word-below, word-other, word-same}
-use Rattle.ia32_rows.specs.Rows.{low_byte, read, storing, target_of}
+use Rattle.ia32_rows.specs.Rows.{low_byte, read, store_to, storing, target_of}
 use Rattle.ia32_rows.specs.Effects.{IsStraight, Keeps, Leads, Makes, OutsideWord}
 use Rattle.ia32_rows.specs.Contains.{Contains, HoldsWord, IsPlaceIn}
+use Rattle.ia32_rows.specs.Laws.{IsWorking}
 use Rattle.ia32_rows.proofs.Instructions.{store-at}
-use Rattle.ia32_rows.proofs.Kept.{framed-kept, keeps-same, keeps-stricter, keeps-then, other-cells, result-keeps}
-use Rattle.ia32_rows.proofs.Kept.{word-kept}
-use Rattle.ia32_rows.proofs.Moves.{general-below, read-gives}
+use Rattle.ia32_rows.proofs.Kept.{contains-kept, framed-kept, keeps-same, keeps-stricter, keeps-then, other-cells}
+use Rattle.ia32_rows.proofs.Kept.{result-keeps, word-kept}
+use Rattle.ia32_rows.proofs.Moves.{general-below, gives-word, read-gives}
 use Rattle.ia32_rows.proofs.Straight.{leads-join}
 use Rattle.ia32_rows.proofs.Sums.{esi-works}
 use Rattle.ia32_laws.proofs.Goes.{Goes, goes-of, low-byte-is}
-use Rattle.ia32_laws.specs.AccessesLaws.{ElementStores, OutsideScratch, Stores}
-use Rattle.ia32_laws.proofs.Loading.{near-address}
+use Rattle.ia32_laws.specs.AccessesLaws.{ElementStores, OutsideScratch, PlaceStores, Stores}
+use Rattle.ia32_laws.proofs.Loading.{near-address, place-at}
 
 -- ---- memory
 
@@ -102,21 +104,21 @@ stored-in-keeps R site n a v s t h =
 
 -- ---- one instruction
 
--- an instruction that stores n bytes at the address in EDI
-put-stores : (site : Site) (frame : ℕ) (i : Insn) (n a v : ℕ) (s : State) → Framed site frame s → IsStraight i → 0 < n
-    → word_of Edi s ≡ a → site.low ≤ a → a + n ≤ site.high → v < 256 ^ n
-    → ((address : ℕ) → effect i 0 (at_address address s) ≡ store n (address_of (near Edi 0) s) v (at_address address s))
+-- an instruction that stores n bytes in memory
+put-stores : (site : Site) (frame : ℕ) (i : Insn) (mem : Mem) (n a v : ℕ) (s : State) → Framed site frame s
+    → IsStraight i → 0 < n → address_of mem s ≡ a → site.low ≤ a → a + n ≤ site.high → v < 256 ^ n
+    → ((address : ℕ) → effect i 0 (at_address address s)
+    ≡ store n (address_of mem (at_address address s)) v (at_address address s))
     → (u : State) × Stores site frame (plain i ∷ []) a n v s u × Keeps (λ k. ⊤) (λ b m. AreDisjoint a n b m) s u
-put-stores site frame i n a v s framed straight some edi from to fits does =
+put-stores site frame i mem n a v s framed straight some at from to fits does =
     let m = stores-in site n a v s framed.sound some from to fits in
     let u : State = m.0 in
     let keeps : Keeps (λ k. ⊤) (λ b m. AreDisjoint a n b m) s u = stored-in-keeps (λ k. ⊤) site n a v s u m.1 in
-    let below = word-below site.text site.low site.high Edi s framed.sound in
-    let at : address_of (near Edi 0) s ≡ a = near-address (word_of Edi s) below ∙ edi in
     let makes : Makes site i s u = record {
       straight = straight;
       does = λ address. does address
-          ∙ store-at n (address_of (near Edi 0) s) v address s u (ap (λ (b : ℕ). store n b v s) at ∙ m.1.is);
+          ∙ ap (λ (b : ℕ). store n b v (at_address address s)) (place-at mem address s ∙ at)
+          ∙ store-at n a v address s u m.1.is;
       sound = m.1.sound;
     } in (
       u,
@@ -130,6 +132,11 @@ put-stores site frame i n a v s framed straight some edi from to fits does =
       },
       keeps,
     )
+
+-- the address in EDI is that of the memory near it
+edi-address : (site : Site) (s : State) → SoundAt site s → address_of (near Edi 0) s ≡ word_of Edi s
+edi-address site s sound =
+    near-address (word_of Edi s) (word-below site.text site.low site.high Edi s sound)
 
 -- ---- XCHG with EAX
 
@@ -213,7 +220,7 @@ eax-cells s u old new same = each
 -- the low byte of ESI by AL, whose word comes back
 byte-stores : (site : Site) (frame : ℕ) (k a x : ℕ) (s : State) → Framed site frame s → word_of Esi s ≡ x
     → word_of Edi s ≡ a → site.low ≤ a → a + 1 ≤ site.high
-    → (u : State) × Stores site frame (storing Eight (InSlot k)) a 1 (x % 256) s u
+    → (u : State) × Stores site frame (storing Eight (near Edi 0) (InSlot k)) a 1 (x % 256) s u
 byte-stores site frame k a x s framed esi edi from to =
     let K : ℕ → ℕ → Type 0 = λ b m. AreDisjoint a 1 b m in
     let R : ℕ → Type 0 = λ c. OutsideWord Eax c × OutsideWord Esi c in
@@ -225,8 +232,9 @@ byte-stores site frame k a x s framed esi edi from to =
     in
     let al : byte_of Al one ≡ x % 256 =
     low-byte-is Eax one first.framed.sound.registers tt ∙ ap (λ (w : ℕ). w % 256) (first.eax ∙ esi) in
-    let second = put-stores site frame (insn.Mov8 (rm8.Mem (near Edi 0)) Al) 1 a (byte_of Al one) one first.framed tt
-    (omega arith) edi_one from to (first.framed.sound.registers.below 0) (λ address. refl) in
+    let second = put-stores site frame (insn.Mov8 (rm8.Mem (near Edi 0)) Al) (near Edi 0) 1 a (byte_of Al one) one
+    first.framed tt (omega arith) (edi-address site one first.framed.sound ∙ edi_one) from to
+    (first.framed.sound.registers.below 0) (λ address. refl) in
     let two : State = second.0 in
     let third = swaps site frame two second.1.framed in
     let u : State = swapped two in
@@ -308,31 +316,43 @@ target-general frame (InWord r) holds placed e = let b = general-below r placed 
 target-general frame (InByte r) holds placed e = absurd holds
 target-general frame (InSlot k) holds placed e = omega (arith, e)
 
--- the low bits of that register to the address in EDI
-storing-stores : (site : Site) (frame : ℕ) (bits : Bits) (q : Place) (a x : ℕ) (s : State) → Framed site frame s
-    → HoldsWord q → IsPlaceIn frame q → word_of (target_of q) s ≡ x → x < 2 ^ 32 → word_of Edi s ≡ a → site.low ≤ a
-    → a + bytes_of bits ≤ site.high
-    → (u : State) × Stores site frame (storing bits q) a (bytes_of bits) (x % 2 ^ (8 * bytes_of bits)) s u
-storing-stores site frame ThirtyTwo q a x s framed holds placed is fits edi from to =
-    let put = put-stores site frame (insn.Mov (rm.Mem (near Edi 0)) (target_of q)) 4 a (word_of (target_of q) s) s
-    framed
-    tt (omega arith) edi from to (omega (arith, is, fits)) (λ address. refl) in
+-- the memory is that at the address in EDI, unless the value stands in a register
+abbrev IsDirect : Mem → Place → Type 0
+IsDirect mem (InWord r) = ⊤
+IsDirect mem (InByte r) = ⊤
+IsDirect mem (InSlot k) = mem ≡ near Edi 0
+
+edi-direct : (q : Place) → IsDirect (near Edi 0) q
+edi-direct (InWord r) = tt
+edi-direct (InByte r) = tt
+edi-direct (InSlot k) = refl
+
+-- the low bits of that register to memory
+storing-stores : (site : Site) (frame : ℕ) (bits : Bits) (mem : Mem) (q : Place) (a x : ℕ) (s : State)
+    → Framed site frame s → HoldsWord q → IsPlaceIn frame q → IsDirect mem q → word_of (target_of q) s ≡ x → x < 2 ^ 32
+    → address_of mem s ≡ a → site.low ≤ a → a + bytes_of bits ≤ site.high
+    → (u : State) × Stores site frame (storing bits mem q) a (bytes_of bits) (x % 2 ^ (8 * bytes_of bits)) s u
+storing-stores site frame ThirtyTwo mem q a x s framed holds placed direct is fits at from to =
+    let put = put-stores site frame (insn.Mov (rm.Mem mem) (target_of q)) mem 4 a (word_of (target_of q) s) s framed tt
+    (omega arith) at from to (omega (arith, is, fits)) (λ address. refl) in
     let same : word_of (target_of q) s ≡ x % 2 ^ 32 = omega (arith, is, fits) in
-    (put.0, subst (λ (v : ℕ). Stores site frame (storing ThirtyTwo q) a 4 v s put.0) same put.1)
-storing-stores site frame Sixteen q a x s framed holds placed is fits edi from to =
-    let put = put-stores site frame (insn.Mov16 (rm.Mem (near Edi 0)) (target_of q)) 2 a
-    (word_of (target_of q) s % 2 ^ 16) s framed tt (omega arith) edi from to (omega arith) (λ address. refl) in
-    (put.0, subst (λ (v : ℕ). Stores site frame (storing Sixteen q) a 2 (v % 2 ^ 16) s put.0) is put.1)
-storing-stores site frame Eight (InWord r) a x s framed holds placed is fits edi from to =
+    (put.0, subst (λ (v : ℕ). Stores site frame (storing ThirtyTwo mem q) a 4 v s put.0) same put.1)
+storing-stores site frame Sixteen mem q a x s framed holds placed direct is fits at from to =
+    let put = put-stores site frame (insn.Mov16 (rm.Mem mem) (target_of q)) mem 2 a (word_of (target_of q) s % 2 ^ 16) s
+    framed tt (omega arith) at from to (omega arith) (λ address. refl) in
+    (put.0, subst (λ (v : ℕ). Stores site frame (storing Sixteen mem q) a 2 (v % 2 ^ 16) s put.0) is put.1)
+storing-stores site frame Eight mem (InWord r) a x s framed holds placed direct is fits at from to =
     let byte : byte_of (low_byte r) s ≡ x % 256 =
     low-byte-is r s framed.sound.registers placed ∙ ap (λ (w : ℕ). w % 256) is in
-    let put = put-stores site frame (insn.Mov8 (rm8.Mem (near Edi 0)) (low_byte r)) 1 a (byte_of (low_byte r) s) s
-    framed
-    tt (omega arith) edi from to (omega (arith, byte)) (λ address. refl) in
-    (put.0, subst (λ (v : ℕ). Stores site frame (storing Eight (InWord r)) a 1 v s put.0) byte put.1)
-storing-stores site frame Eight (InByte r) a x s framed holds placed is fits edi from to = absurd holds
-storing-stores site frame Eight (InSlot k) a x s framed holds placed is fits edi from to =
-    byte-stores site frame k a x s framed is edi from to
+    let put = put-stores site frame (insn.Mov8 (rm8.Mem mem) (low_byte r)) mem 1 a (byte_of (low_byte r) s) s framed tt
+    (omega arith) at from to (omega (arith, byte)) (λ address. refl) in
+    (put.0, subst (λ (v : ℕ). Stores site frame (storing Eight mem (InWord r)) a 1 v s put.0) byte put.1)
+storing-stores site frame Eight mem (InByte r) a x s framed holds placed direct is fits at from to = absurd holds
+storing-stores site frame Eight mem (InSlot k) a x s framed holds placed direct is fits at from to =
+    let edi : word_of Edi s ≡ a =
+    sym (edi-address site s framed.sound) ∙ ap (λ (m : Mem). address_of m s) (sym direct) ∙ at in
+    subst (λ (m : Mem). (u : State) × Stores site frame (storing Eight m (InSlot k)) a 1 (x % 256) s u) (sym direct)
+    (byte-stores site frame k a x s framed is edi from to)
 
 pub element-stores : ElementStores
 element-stores site frame bits q a x s framed holds placed contains fits edi from to =
@@ -341,13 +361,13 @@ element-stores site frame bits q a x s framed holds placed contains fits edi fro
     let m : State = first.0 in
     let edi_m : word_of Edi m ≡ a =
     word-kept (OutsideWord Esi) Anywhere Edi s m first.1.goes.keeps (other-cells Edi Esi (λ e. omega arith)) ∙ edi in
-    let second = storing-stores site frame bits q a x m first.1.goes.framed holds placed first.1.value fits edi_m from
-    to
-    in
+    let second = storing-stores site frame bits (near Edi 0) q a x m first.1.goes.framed holds placed (edi-direct q)
+    first.1.value fits (edi-address site m first.1.goes.framed.sound ∙ edi_m) from to in
     let u : State = second.0 in (
       u,
       record {
-        leads = leads-join site (read (target_of q) q) (storing bits q) s m u first.1.goes.leads second.1.leads;
+        leads = leads-join site (read (target_of q) q) (storing bits (near Edi 0) q) s m u first.1.goes.leads
+            second.1.leads;
         framed = second.1.framed;
         value = second.1.value;
         keeps = keeps-then OutsideScratch K s m u
@@ -355,3 +375,49 @@ element-stores site frame bits q a x s framed holds placed contains fits edi fro
             first.1.goes.keeps) second.1.keeps;
       },
     )
+
+-- ---- at any address
+
+pub edi-works : IsWorking Edi
+edi-works = ((λ e. omega arith), (λ e. omega arith))
+
+lea-makes : (site : Site) (frame : ℕ) (mem : Mem) (a : ℕ) (s : State) → Framed site frame s → address_of mem s ≡ a
+    → Makes site (insn.Lea Edi mem) s (with_word Edi a s)
+lea-makes site frame mem a s framed at =
+    subst (λ (b : ℕ). Makes site (insn.Lea Edi mem) s (with_word Edi b s)) at
+    (record {
+      straight = tt;
+      does = λ address. ap (λ (b : ℕ).
+          let q : Result State End = Ok (with_word Edi b (at_address address s)) in q) (place-at mem address s);
+      sound = sound-with_word site.text site.low site.high Edi (address_of mem s) s framed.sound;
+    })
+
+pub place-stores : PlaceStores
+place-stores site frame bits mem (InWord r) a x s framed holds placed contains fits at from to =
+    storing-stores site frame bits mem (InWord r) a x s framed holds placed tt contains fits at from to
+place-stores site frame bits mem (InByte r) a x s framed holds placed contains fits at from to = absurd holds
+place-stores site frame bits mem (InSlot k) a x s framed holds placed contains fits at from to =
+    let K : ℕ → ℕ → Type 0 = λ b m. AreDisjoint a (bytes_of bits) b m in
+    let high = framed.sound.below in
+    let lea = gives-word site frame (insn.Lea Edi mem) Edi a s framed edi-works (some-below bits a to high)
+    (lea-makes site frame mem a s framed at) in
+    let m : State = lea.0 in
+    let held = contains-kept (OutsideWord Edi) Anywhere s m Two (InSlot k) x lea.1.keeps
+    (other-cells Ebp Edi (λ e. omega arith)) tt (tt, tt) contains in
+    let second = element-stores site frame bits (InSlot k) a x m lea.1.framed holds placed held fits lea.1.value from to
+    in (
+      second.0,
+      record {
+        leads = leads-join site (plain (insn.Lea Edi mem) ∷ []) (store_to bits (InSlot k)) s m second.0 lea.1.leads
+            second.1.leads;
+        framed = second.1.framed;
+        value = second.1.value;
+        keeps = keeps-then OutsideScratch K s m second.0
+            (keeps-stricter (OutsideWord Edi) OutsideScratch Anywhere K s m (λ j h. h.1) (λ b l h. tt) lea.1.keeps)
+            second.1.keeps;
+      },
+    )
+  where
+    some-below : (bits : Bits) (a : ℕ) → a + bytes_of bits ≤ site.high → site.high < 0x1_0000_0000
+        → a < 0x1_0000_0000
+    some-below bits a h k = omega (arith, h, k)

@@ -17,7 +17,7 @@ use Rattle.ia32_insn.specs.Meaning.{Halts, address_of, load, word_of}
 use Rattle.ia32_insn.specs.Runs.{Steps}
 use Rattle.ia32_rows.specs.Paths.{Comes, IsClear}
 use Rattle.ia32_rows.specs.Sites.{Framed, Site}
-use Rattle.ia32_rows.specs.Rows.{frame_row, load_from, store_to}
+use Rattle.ia32_rows.specs.Rows.{frame_row, load_from, store_at, store_to}
 use Rattle.ia32_rows.specs.Effects.{Keeps, Leads, OutsideWord}
 use Rattle.ia32_rows.specs.Contains.{Contains, HoldsWord, IsPlaceIn}
 use Rattle.ia32_rows.specs.Laws.{Puts}
@@ -65,6 +65,14 @@ ElementStores =
     → HoldsWord q → IsPlaceIn frame q → Contains s Two q x → x < 2 ^ 32 → word_of Edi s ≡ address
     → site.low ≤ address → address + bytes_of bits ≤ site.high
     → (u : State) × Stores site frame (store_to bits q) address (bytes_of bits) (x % 2 ^ (8 * bytes_of bits)) s u
+
+-- and to the address of any memory: directly where the place is a register, else by EDI
+abbrev pub PlaceStores : Type 0
+PlaceStores =
+    (site : Site) (frame : ℕ) (bits : Bits) (m : Mem) (q : Place) (address x : ℕ) (s : State) → Framed site frame s
+    → HoldsWord q → IsPlaceIn frame q → Contains s Two q x → x < 2 ^ 32 → address_of m s ≡ address
+    → site.low ≤ address → address + bytes_of bits ≤ site.high
+    → (u : State) × Stores site frame (store_at bits m q) address (bytes_of bits) (x % 2 ^ (8 * bytes_of bits)) s u
 
 -- the run ends with the trap of a failed check
 pub record FailsAccess (site : Site) (s u : State) : Type 0 where

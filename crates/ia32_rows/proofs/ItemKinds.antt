@@ -40,16 +40,16 @@ use Rattle.ia32_rows.specs.Effects.{IsStraight}
 use Rattle.ia32_rows.specs.Filling.{fill}
 use Rattle.ia32_rows.specs.Follows.{is_nop}
 use Rattle.ia32_rows.specs.Placements.{Placement, below}
-use Rattle.ia32_rows.specs.Moves.{has_operand, target_of, working, read, write, operate, number_row, copy_row}
-use Rattle.ia32_rows.specs.Moves.{operation, commuting, pass}
-use Rattle.ia32_rows.specs.Computing.{multiply, multiplying, changing, low_byte, extend, widening, lowering}
+use Rattle.ia32_rows.specs.Moves.{has_operand, is_at, is_in, target_of, working, read, write, operate, number_row}
+use Rattle.ia32_rows.specs.Moves.{adding, by_register, copy_row, in_slot, operation, commuting, pass, sum_of}
+use Rattle.ia32_rows.specs.Computing.{multiply, product_of, multiplying, changing, low_byte, extend, widening, lowering}
 use Rattle.ia32_rows.specs.Computing.{extend_half, halving, into_count, shifted_in, shifting, clear_divisor}
 use Rattle.ia32_rows.specs.Computing.{choosing, divisor_of, before_division, dividing, cond_of, comparing, jumping}
 use Rattle.ia32_rows.specs.Computing.{set_row}
 use Rattle.ia32_rows.specs.Passing.{argument_word, param_row, pass_all, deepen, undeepen, drop_words, write_any}
 use Rattle.ia32_rows.specs.Passing.{before_call, behind_call, call_row, leave, return_row, prologue}
 use Rattle.ia32_rows.specs.Accesses.{loading, load_from, storing, store_to, index_register, count_before, element}
-use Rattle.ia32_rows.specs.Accesses.{check_array, check_index, checking, load_row, store_row}
+use Rattle.ia32_rows.specs.Accesses.{check_array, check_index, checking, load_row, store_at, store_row}
 use Rattle.ia32_rows.specs.Rows.{entry_label, row, place_before, place_after, point_row, point_rows}
 use Rattle.ia32_rows.specs.Rows.{block_rows, headers, loop_label, moves_into, moves_to, selected}
 
@@ -228,16 +228,39 @@ copy-row (InSlot s) (InSlot d) = ((tt, (tt, tt)), tt)
 written-row : (items : List Item) (p : Place) (t : Reg32) → IsPlainRow items → IsPlainRow (items ++ write p t)
 written-row items p t h = row-before IsPlain items (write p t) h (write-insns p t)
 
-operation-row : (how : AluOp) (p q r : Place) → IsPlainRow (operation how p q r)
-operation-row how p q r =
+by_register-row : (how : AluOp) (p q r : Place) → IsPlainRow (by_register how p q r)
+by_register-row how p q r =
     let t : Reg32 = working p q r in
     written-row (read t q ++ operate how t r) p t
     (row-behind IsPlain (read t q) (operate how t r) (read-insns t q) (operate-row how t r))
+
+in_slot-row : (how : AluOp) (k : ℕ) (r : Place) → IsPlainRow (in_slot how k r)
+in_slot-row how k r =
+    row-behind IsPlain (read (target_of r) r) (plain (insn.Alu how (rm.Mem (below k)) (target_of r)) ∷ [])
+    (read-insns (target_of r) r) ((tt, tt), tt)
+
+operation-row : (how : AluOp) (p q r : Place) → IsPlainRow (operation how p q r)
+operation-row how (InWord d) q r = by_register-row how (InWord d) q r
+operation-row how (InByte d) q r = by_register-row how (InByte d) q r
+operation-row how (InSlot k) q r =
+    either-way IsPlainRow (is_at k q) (in_slot how k r) (by_register how (InSlot k) q r) (in_slot-row how k r)
+    (by_register-row how (InSlot k) q r)
 
 commuting-row : (how : AluOp) (p q r : Place) → IsPlainRow (commuting how p q r)
 commuting-row how p q r =
     either-way IsPlainRow (has_operand p r) (operation how p r q) (operation how p q r) (operation-row how p r q)
     (operation-row how p q r)
+
+adding-row : (p q r : Place) → IsPlainRow (adding p q r)
+adding-row p (InWord a) (InWord b) =
+    let lea : List Item = plain (insn.Lea (target_of p) (sum_of a b)) ∷ [] in
+    either-way IsPlainRow (has_operand p (InWord a) || has_operand p (InWord b))
+    (commuting alu.Add p (InWord a) (InWord b)) (lea ++ write p (target_of p))
+    (commuting-row alu.Add p (InWord a) (InWord b)) (written-row lea p (target_of p) ((tt, tt), tt))
+adding-row p (InWord a) (InByte b) = commuting-row alu.Add p (InWord a) (InByte b)
+adding-row p (InWord a) (InSlot k) = commuting-row alu.Add p (InWord a) (InSlot k)
+adding-row p (InByte a) r = commuting-row alu.Add p (InByte a) r
+adding-row p (InSlot k) r = commuting-row alu.Add p (InSlot k) r
 
 pass-row : (p : Place) → IsPlainRow (pass p)
 pass-row (InWord r) = ((tt, tt), tt)
@@ -251,11 +274,16 @@ multiply-row t (InWord r) = ((tt, tt), tt)
 multiply-row t (InByte r) = ((tt, (tt, tt)), tt)
 multiply-row t (InSlot k) = ((tt, tt), tt)
 
-multiplying-row : (p q r : Place) → IsPlainRow (multiplying p q r)
-multiplying-row p q r =
+product-row : (p q r : Place) → IsPlainRow (product_of p q r)
+product-row p q r =
     let t : Reg32 = working p q r in
     written-row (read t q ++ multiply t r) p t
     (row-behind IsPlain (read t q) (multiply t r) (read-insns t q) (multiply-row t r))
+
+multiplying-row : (p q r : Place) → IsPlainRow (multiplying p q r)
+multiplying-row p q r =
+    either-way IsPlainRow (is_in (target_of p) r) (product_of p r q) (product_of p q r) (product-row p r q)
+    (product-row p q r)
 
 changing-row : (how : Rm32 → Insn) (p q : Place) → ((operand : Rm32) → IsCommon (how operand))
     → IsPlainRow (changing how p q)
@@ -384,19 +412,25 @@ load_from-row Eight p m = written-behind (plain (loading Eight (target_of p) m))
 load_from-row Sixteen p m = written-behind (plain (loading Sixteen (target_of p) m)) p (target_of p) tt
 load_from-row ThirtyTwo p m = written-behind (plain (loading ThirtyTwo (target_of p) m)) p (target_of p) tt
 
-storing-insns : (bits : Bits) (p : Place) → AreOthers (storing bits p)
-storing-insns ThirtyTwo p = (tt, tt)
-storing-insns Sixteen p = (tt, tt)
-storing-insns Eight (InWord r) = (tt, tt)
-storing-insns Eight (InByte r) = (tt, tt)
-storing-insns Eight (InSlot k) = (tt, (tt, (tt, tt)))
+storing-row : (bits : Bits) (m : Mem) (p : Place) → IsOtherRow (storing bits m p)
+storing-row ThirtyTwo m p = ((tt, tt), tt)
+storing-row Sixteen m p = ((tt, tt), tt)
+storing-row Eight m (InWord r) = ((tt, tt), tt)
+storing-row Eight m (InByte r) = ((tt, tt), tt)
+storing-row Eight m (InSlot k) = ((tt, (tt, (tt, tt))), tt)
 
 read-row : (t : Reg32) (p : Place) → AreOthers (read t p)
 read-row t p = plain-others (read t p) (read-insns t p)
 
 store_to-insns : (bits : Bits) (p : Place) → AreOthers (store_to bits p)
 store_to-insns bits p =
-    all-append IsOther (read (target_of p) p) (storing bits p) (read-row (target_of p) p) (storing-insns bits p)
+    all-append IsOther (read (target_of p) p) (storing bits (near Edi 0) p) (read-row (target_of p) p)
+    (storing-row bits (near Edi 0) p).0
+
+store_at-row : (bits : Bits) (m : Mem) (p : Place) → IsOtherRow (store_at bits m p)
+store_at-row bits m (InWord r) = storing-row bits m (InWord r)
+store_at-row bits m (InByte r) = ((tt, store_to-insns bits (InByte r)), tt)
+store_at-row bits m (InSlot k) = ((tt, store_to-insns bits (InSlot k)), tt)
 
 checking-insns : (p q : Place) → AreOthers (checking p q)
 checking-insns p q =
@@ -415,8 +449,7 @@ load-row bits p q r =
 store-row : (bits : Bits) (p q r : Place) → IsOtherRow (store_row bits p q r)
 store-row bits p q r =
     let m : Mem = element (bytes_of bits) (target_of p) (index_register q) in
-    row-behind IsOther (checking p q) (plain (insn.Lea Edi m) ∷ store_to bits r) (checking-insns p q)
-    ((tt, store_to-insns bits r), tt)
+    row-behind IsOther (checking p q) (store_at bits m r) (checking-insns p q) (store_at-row bits m r)
 
 -- ---- of moves between points
 
@@ -502,7 +535,7 @@ other-is flow placement p (op.Not d s) straight none =
     (changing-row insn.Not (place_after placement p d) (place_before placement p s) (λ operand. tt))
 other-is flow placement p (op.Add d a b) straight none =
     plain-row (row flow placement p (op.Add d a b))
-    (commuting-row alu.Add (place_after placement p d) (place_before placement p a) (place_before placement p b))
+    (adding-row (place_after placement p d) (place_before placement p a) (place_before placement p b))
 other-is flow placement p (op.Sub d a b) straight none =
     plain-row (row flow placement p (op.Sub d a b))
     (operation-row alu.Sub (place_after placement p d) (place_before placement p a) (place_before placement p b))

@@ -14,7 +14,7 @@ use Rattle.ia32_insn.proofs.Registers.{number32_below, little_from-same, get_or-
 use Rattle.ia32_insn.specs.Places.{Place, InWord, InByte, InSlot}
 use Rattle.ia32_insn.specs.declared.flags.Flags.{Flags}
 use Rattle.ia32_insn.specs.State.{State}
-use Rattle.ia32_insn.specs.Meaning.{load, word_of, with_byte}
+use Rattle.ia32_insn.specs.Meaning.{load, word_of, with_byte, with_flags}
 use Rattle.ia32_insn.specs.Keeps.{AreDisjoint}
 use Rattle.ia32_rows.specs.Sites.{Site, SoundAt, Framed, Anywhere}
 use Rattle.ia32_rows.proofs.Sound.{Stored, load-same}
@@ -87,6 +87,18 @@ stored-keeps R site a v s t h =
       left = h.rest.left;
       taken = h.rest.taken;
       written = h.rest.written;
+    }
+
+-- flags
+pub flags-keep : (R : ℕ → Type 0) (K : ℕ → ℕ → Type 0) (flags : Option Flags) (s : State)
+    → Keeps R K s (with_flags flags s)
+flags-keep R K flags s =
+    record {
+      cells = λ k r. refl;
+      loads = λ n a w k e. load-same n a w s (with_flags flags s) refl e;
+      left = refl;
+      taken = refl;
+      written = refl;
     }
 
 -- ---- words

@@ -134,25 +134,33 @@ extend-gives site frame t r b s framed works contains small =
 untouched-stack : (frame : ℕ) (p : Place) (k : ℕ) → 16 ≤ k → k < 24 → OutsidePlace p k → Untouched p k
 untouched-stack frame p k low high outside = (outside, inl (omega arith), inl (omega arith))
 
--- one word of memory
+-- an instruction that changes one word of memory, and no register
+pub puts-memory : (site : Site) (frame : ℕ) (i : Insn) (k w : ℕ) (s t : State) → Framed site frame s
+    → load 4 (word_of Ebp s - k) t ≡ Ok w → load 1 (word_of Ebp s - k) t ≡ Ok (w % 256)
+    → Keeps (λ c. ⊤) (ApartFromPlace (word_of Ebp s) (InSlot k)) s t → Makes site i s t
+    → Puts site frame (plain i ∷ []) (InSlot k) w s t
+puts-memory site frame i k w s t framed word byte keeps makes =
+    let K : ℕ → ℕ → Type 0 = ApartFromPlace (word_of Ebp s) (InSlot k) in
+    let ebp : word_of Ebp t ≡ word_of Ebp s = word-kept (λ c. ⊤) K Ebp s t keeps (λ m below. tt) in
+    record {
+      leads = (t, makes, refl);
+      holds = (
+        subst (λ (e : ℕ). load 4 (e - k) t ≡ Ok w) (sym ebp) word,
+        subst (λ (e : ℕ). load 1 (e - k) t ≡ Ok (w % 256)) (sym ebp) byte,
+      );
+      framed = framed-kept (λ c. ⊤) K site frame s t framed keeps makes.sound (λ m below. tt) (λ m below. tt);
+      keeps = keeps-stricter (λ c. ⊤) (Untouched (InSlot k)) K K s t (λ c q. tt) (λ a n l. l) keeps;
+    }
+
+-- one that stores it
 puts-slot : (site : Site) (frame : ℕ) (i : Insn) (k w : ℕ) (s : State) → Framed site frame s
     → ((t : State) × Stored site.text site.low site.high (word_of Ebp s - k) w s t × Makes site i s t)
     → (u : State) × Puts site frame (plain i ∷ []) (InSlot k) w s u
-puts-slot site frame i k w s framed (t, stored, makes) =
-    let K : ℕ → ℕ → Type 0 = ApartFromPlace (word_of Ebp s) (InSlot k) in
-    let keeps : Keeps (λ c. ⊤) K s t = stored-keeps (λ c. ⊤) site (word_of Ebp s - k) w s t stored in
-    let ebp : word_of Ebp t ≡ word_of Ebp s = word-kept (λ c. ⊤) K Ebp s t keeps (λ m below. tt) in (
-      t,
-      record {
-        leads = (t, makes, refl);
-        holds = (
-          subst (λ (e : ℕ). load 4 (e - k) t ≡ Ok w) (sym ebp) stored.same,
-          subst (λ (e : ℕ). load 1 (e - k) t ≡ Ok (w % 256)) (sym ebp) stored.byte,
-        );
-        framed = framed-kept (λ c. ⊤) K site frame s t framed keeps makes.sound (λ m below. tt) (λ m below. tt);
-        keeps = keeps-stricter (λ c. ⊤) (Untouched (InSlot k)) K K s t (λ c q. tt) (λ a n l. l) keeps;
-      },
-    )
+puts-slot site frame i k w s framed (t, stored, makes) = (
+  t,
+  puts-memory site frame i k w s t framed stored.same stored.byte
+      (stored-keeps (λ c. ⊤) site (word_of Ebp s - k) w s t stored) makes,
+)
 
 -- what gives a register of a variable a word puts it there
 pub puts-word : (site : Site) (frame : ℕ) (items : List Item) (r : Reg32) (w : ℕ) (s : State)

@@ -23,13 +23,13 @@ use Rattle.ia32_rows.proofs.Frames.{with_result}
 use Rattle.ia32_rows.proofs.Sound.{load-same, word-same}
 use Rattle.ia32_rows.specs.Rows.{extend, read, target_of, write}
 use Rattle.ia32_rows.specs.Effects.{Makes, Keeps, OutsideWord}
-use Rattle.ia32_rows.specs.Contains.{ApartFromPlace, Contains, HoldsWord, IsPlaceIn, Untouched}
+use Rattle.ia32_rows.specs.Contains.{Contains, HoldsWord, IsPlaceIn}
 use Rattle.ia32_rows.specs.Laws.{Gives, IsWorking, Puts}
 use Rattle.ia32_rows.specs.Unary.{ComplementPuts, ExtensionPuts, NegationPuts}
-use Rattle.ia32_rows.proofs.Kept.{framed-kept, keeps-stricter, keeps-then, other-cells, result-keeps, word-kept}
-use Rattle.ia32_rows.proofs.Straight.{leads-join}
+use Rattle.ia32_rows.proofs.Kept.{framed-kept, other-cells, result-keeps}
 use Rattle.ia32_rows.proofs.Instructions.{below-loaded, result-makes}
-use Rattle.ia32_rows.proofs.Moves.{extend-gives, general-works, read-gives, write-puts}
+use Rattle.ia32_rows.proofs.Moves.{extend-gives, read-gives}
+use Rattle.ia32_rows.proofs.Sums.{gives-behind, target-puts, target-works}
 
 -- ---- on a register
 
@@ -71,17 +71,6 @@ not-makes site t s sound =
 
 -- ---- from a place to a place
 
--- the register of a row may be changed, and is in the place, or scratch
-target-works : (frame : ℕ) (p : Place) → IsPlaceIn frame p → IsWorking (target_of p)
-target-works frame (InWord r) placed = general-works r placed
-target-works frame (InByte r) placed = ((λ e. omega arith), (λ e. omega arith))
-target-works frame (InSlot k) placed = ((λ e. omega arith), (λ e. omega arith))
-
-target-within : (p : Place) (k : ℕ) → Untouched p k → OutsideWord (target_of p) k
-target-within (InWord r) k h = h.0
-target-within (InByte r) k h = h.1
-target-within (InSlot b) k h = h.1
-
 -- a change of the register puts the result in its place
 changed-puts : (site : Site) (frame : ℕ) (i : Insn) (f : ℕ → ℕ) (p q : Place) (x : ℕ) (s : State)
     → Framed site frame s → 16 ≤ frame → IsPlaceIn frame p → HoldsWord q → IsPlaceIn frame q → Contains s Two q x
@@ -91,29 +80,10 @@ changed-puts : (site : Site) (frame : ℕ) (i : Insn) (f : ℕ → ℕ) (p q : P
     → (u : State) × Puts site frame (read (target_of p) q ++ plain i ∷ [] ++ write p (target_of p)) p (f x) s u
 changed-puts site frame i f p q x s framed room to holds placed contains fits gives =
     let t : Reg32 = target_of p in
-    let works = target-works frame p to in
-    let first = read-gives site frame t q x s framed works holds placed contains fits in
-    let m : State = first.0 in
-    let second = gives m first.1.framed first.1.value in
-    let n : State = second.0 in
-    let third = write-puts site frame p t (f x) n second.1.framed room to second.1.value in
-    let u : State = third.0 in
-    let K : ℕ → ℕ → Type 0 = ApartFromPlace (word_of Ebp s) p in
-    let both : Keeps (OutsideWord t) Anywhere s n = keeps-then (OutsideWord t) Anywhere s m n first.1.keeps
-    second.1.keeps in
-    let ebp : word_of Ebp n ≡ word_of Ebp s = word-kept (OutsideWord t) Anywhere Ebp s n both
-    (other-cells Ebp t works.1) in (
-      u,
-      record {
-        leads = leads-join site (read t q ++ plain i ∷ []) (write p t) s n u
-            (leads-join site (read t q) (plain i ∷ []) s m n first.1.leads second.1.leads) third.1.leads;
-        holds = third.1.holds;
-        framed = third.1.framed;
-        keeps = keeps-then (Untouched p) K s n u
-            (keeps-stricter (OutsideWord t) (Untouched p) Anywhere K s n (target-within p) (λ a n l. tt) both)
-            (subst (λ (e : ℕ). Keeps (Untouched p) (ApartFromPlace e p) n u) ebp third.1.keeps);
-      },
-    )
+    let first = read-gives site frame t q x s framed (target-works frame p to) holds placed contains fits in
+    let second = gives first.0 first.1.framed first.1.value in
+    target-puts site frame (read t q ++ plain i ∷ []) p (f x) s room to
+    (second.0, gives-behind site frame (read t q) (plain i ∷ []) t x (f x) s first.0 second.0 first.1 second.1)
 
 pub negation-puts : NegationPuts
 negation-puts site frame p q x s framed room to holds placed contains fits =
@@ -166,22 +136,5 @@ extend-gives-any site frame t (InSlot k) b s framed works placed contains small 
 
 pub extension-puts : ExtensionPuts
 extension-puts site frame p q b s framed room to placed contains small =
-    let t : Reg32 = target_of p in
-    let works = target-works frame p to in
-    let first = extend-gives-any site frame t q b s framed works placed contains small in
-    let m : State = first.0 in
-    let second = write-puts site frame p t (extended8 b) m first.1.framed room to first.1.value in
-    let u : State = second.0 in
-    let K : ℕ → ℕ → Type 0 = ApartFromPlace (word_of Ebp s) p in
-    let ebp : word_of Ebp m ≡ word_of Ebp s = word-kept (OutsideWord t) Anywhere Ebp s m first.1.keeps
-    (other-cells Ebp t works.1) in (
-      u,
-      record {
-        leads = leads-join site (extend t q) (write p t) s m u first.1.leads second.1.leads;
-        holds = second.1.holds;
-        framed = second.1.framed;
-        keeps = keeps-then (Untouched p) K s m u
-            (keeps-stricter (OutsideWord t) (Untouched p) Anywhere K s m (target-within p) (λ a n l. tt) first.1.keeps)
-            (subst (λ (e : ℕ). Keeps (Untouched p) (ApartFromPlace e p) m u) ebp second.1.keeps);
-      },
-    )
+    target-puts site frame (extend (target_of p) q) p (extended8 b) s room to
+    (extend-gives-any site frame (target_of p) q b s framed (target-works frame p to) placed contains small)

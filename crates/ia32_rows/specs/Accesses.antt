@@ -44,22 +44,19 @@ loading ThirtyTwo t m = insn.MovLoad t m
 abbrev pub load_from : Bits → Place → Mem → List Item
 load_from bits result m = plain (loading bits (target_of result) m) ∷ write result (target_of result)
 
--- The low bits of the value's register to the address in EDI. ESI has no byte register, so its word goes to EAX and
--- back for a byte, by XCHG.
-abbrev pub storing : Bits → Place → List Item
-storing ThirtyTwo value = plain (insn.Mov (rm.Mem (near Edi 0)) (target_of value)) ∷ []
-storing Sixteen value = plain (insn.Mov16 (rm.Mem (near Edi 0)) (target_of value)) ∷ []
-storing Eight (InWord r) = plain (insn.Mov8 (rm8.Mem (near Edi 0)) (low_byte r)) ∷ []
-storing Eight (InByte r) = plain (insn.Mov8 (rm8.Mem (near Edi 0)) r) ∷ []
-storing Eight (InSlot k) =
-    plain (insn.Xchg (rm.Reg Esi) Eax)
-    ∷ plain (insn.Mov8 (rm8.Mem (near Edi 0)) Al)
-    ∷ plain (insn.Xchg (rm.Reg Esi) Eax)
-    ∷ []
+-- The low bits of the value's register to memory. ESI has no byte register, so its word goes to EAX and back for a
+-- byte, by XCHG.
+abbrev pub storing : Bits → Mem → Place → List Item
+storing ThirtyTwo m value = plain (insn.Mov (rm.Mem m) (target_of value)) ∷ []
+storing Sixteen m value = plain (insn.Mov16 (rm.Mem m) (target_of value)) ∷ []
+storing Eight m (InWord r) = plain (insn.Mov8 (rm8.Mem m) (low_byte r)) ∷ []
+storing Eight m (InByte r) = plain (insn.Mov8 (rm8.Mem m) r) ∷ []
+storing Eight m (InSlot k) =
+    plain (insn.Xchg (rm.Reg Esi) Eax) ∷ plain (insn.Mov8 (rm8.Mem m) Al) ∷ plain (insn.Xchg (rm.Reg Esi) Eax) ∷ []
 
 -- the value to a register, unless it stands in one, and on to the address in EDI
 abbrev pub store_to : Bits → Place → List Item
-store_to bits value = read (target_of value) value ++ storing bits value
+store_to bits value = read (target_of value) value ++ storing bits (near Edi 0) value
 
 -- ---- static objects of one element
 
@@ -108,8 +105,13 @@ abbrev pub load_row : Bits → Place → Place → Place → List Item
 load_row bits result array index =
     checking array index ++ load_from bits result (element (bytes_of bits) (target_of array) (index_register index))
 
+-- A value in a register goes to memory directly. Any other by ESI, which the element's address may need: so this goes to
+-- EDI before.
+abbrev pub store_at : Bits → Mem → Place → List Item
+store_at bits m (InWord r) = storing bits m (InWord r)
+store_at bits m (InByte r) = plain (insn.Lea Edi m) ∷ store_to bits (InByte r)
+store_at bits m (InSlot k) = plain (insn.Lea Edi m) ∷ store_to bits (InSlot k)
+
 abbrev pub store_row : Bits → Place → Place → Place → List Item
 store_row bits array index value =
-    checking array index
-    ++ plain (insn.Lea Edi (element (bytes_of bits) (target_of array) (index_register index)))
-    ∷ store_to bits value
+    checking array index ++ store_at bits (element (bytes_of bits) (target_of array) (index_register index)) value

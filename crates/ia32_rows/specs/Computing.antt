@@ -22,7 +22,7 @@ use Rattle.ia32_insn.specs.Items.{plain}
 use Rattle.flow_graph.specs.declared.op.Comparison.{Comparison}
 use Rattle.flow_graph.specs.declared.op.Comparison.TheVariants.{Eq, Ne, Lt, Le, Gt, Ge}
 use Rattle.ia32_rows.specs.Placements.{below}
-use Rattle.ia32_rows.specs.Moves.{copy_row, operate, read, target_of, working, write}
+use Rattle.ia32_rows.specs.Moves.{copy_row, is_in, operate, read, target_of, working, write}
 
 -- ---- products
 
@@ -33,11 +33,16 @@ multiply t (InByte r) = plain (insn.MovSx8 Edi (rm8.Reg r)) ∷ plain (insn.IMul
 multiply t (InSlot k) = plain (insn.IMul t (rm.Mem (below k))) ∷ []
 
 -- the first operand to a register, unless it stands there, the product, and the result to its place, unless it is there
-abbrev pub multiplying : Place → Place → Place → List Item
-multiplying result first second =
+abbrev pub product_of : Place → Place → Place → List Item
+product_of result first second =
     read (working result first second) first
     ++ multiply (working result first second) second
     ++ write result (working result first second)
+
+-- the operand that stands in the row's register is the first
+abbrev pub multiplying : Place → Place → Place → List Item
+multiplying result first second =
+    if is_in (target_of result) second then product_of result second first else product_of result first second
 
 -- ---- one operand
 

@@ -12,11 +12,12 @@ use Rattle.ia32_insn.specs.declared.insn.AluOp.{AluOp}
 use Rattle.ia32_insn.specs.declared.insn.AluOp.TheVariants as alu
 use Rattle.ia32_insn.specs.declared.item.Item.{Item}
 use Rattle.ia32_insn.specs.State.{State, at_address}
-use Rattle.ia32_insn.specs.Arithmetic.{alu_value, extended8}
+use Rattle.ia32_insn.specs.Arithmetic.{alu_value, extended8, sum}
 use Rattle.ia32_insn.specs.Meaning.{word_of}
 use Rattle.ia32_rows.specs.Paths.{Comes}
 use Rattle.ia32_rows.specs.Sites.{Site, SoundAt, ReadyAt, Framed, Anywhere, IsInFrame}
 use Rattle.ia32_rows.specs.Rows.{AreApart, read, write, operate, number_row, copy_row, operation, commuting}
+use Rattle.ia32_rows.specs.Rows.{adding}
 use Rattle.ia32_rows.specs.Effects.{Leads, Keeps, OutsideWord}
 use Rattle.ia32_rows.specs.Contains.{Contains, IsPlaceIn, HoldsWord, Untouched, ApartFromPlace}
 
@@ -132,6 +133,13 @@ CommutingPuts =
     → IsWriting how → alu_value how y x ≡ alu_value how x y → IsPlaceIn frame p → HoldsWord q → IsPlaceIn frame q
     → HoldsWord r → IsPlaceIn frame r → Contains s Two q x → Contains s Two r y → x < 2 ^ 32 → y < 2 ^ 32
     → alu_value how x y < 2 ^ 32 → (u : State) × Puts site frame (commuting how p q r) p (alu_value how x y) s u
+
+-- the sum of the words of two places
+abbrev pub SumPuts : Type 0
+SumPuts =
+    (site : Site) (frame : ℕ) (p q r : Place) (x y : ℕ) (s : State) → Framed site frame s → 16 ≤ frame
+    → IsPlaceIn frame p → HoldsWord q → IsPlaceIn frame q → HoldsWord r → IsPlaceIn frame r → Contains s Two q x
+    → Contains s Two r y → x < 2 ^ 32 → y < 2 ^ 32 → (u : State) × Puts site frame (adding p q r) p (sum x y) s u
 
 -- ---- other places
 

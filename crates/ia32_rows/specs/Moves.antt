@@ -1,14 +1,17 @@
 -- How words and bytes move between places and registers, and what an instruction works on: pieces of rows, each over
 -- places of any kind.
-use Rattle.std.specs.Prelude.{◌%◌, ◌&&◌, ◌==◌, not, ℕ, ℤ, Bool, false, List, [], ◌∷◌, ◌++◌, if◌then◌else◌}
+use Rattle.std.specs.Prelude.{◌%◌, ◌&&◌, ◌||◌, ◌==◌, not, ℕ, ℤ, pos, Bool, false, List, [], ◌∷◌, ◌++◌, Some}
+use Rattle.std.specs.Prelude.{if◌then◌else◌}
 use Rattle.std.specs.Int.{w32, cast_unsigned}
 use Rattle.ia32_insn.specs.declared.register_names.Reg32.{Reg32}
 use Rattle.ia32_insn.specs.declared.register_names.Reg32.TheVariants.{Esi, Edi}
 use Rattle.ia32_insn.specs.Registers.{number32, number8}
 use Rattle.ia32_insn.specs.Places.{Place, InWord, InByte, InSlot}
+use Rattle.ia32_insn.specs.declared.operand.Mem.{Mem}
 use Rattle.ia32_insn.specs.declared.operand.Rm32.TheVariants as rm
 use Rattle.ia32_insn.specs.declared.operand.Rm8.TheVariants as rm8
 use Rattle.ia32_insn.specs.declared.insn.AluOp.{AluOp}
+use Rattle.ia32_insn.specs.declared.insn.AluOp.TheVariants as alu
 use Rattle.ia32_insn.specs.declared.insn.Insn.TheVariants as insn
 use Rattle.ia32_insn.specs.declared.item.Item.{Item}
 use Rattle.ia32_insn.specs.Items.{plain}
@@ -26,6 +29,12 @@ abbrev pub is_in : Reg32 → Place → Bool
 is_in t (InWord r) = number32 r == number32 t
 is_in t (InByte r) = number8 r % 4 == number32 t
 is_in t (InSlot k) = false
+
+-- the place is the slot
+abbrev pub is_at : ℕ → Place → Bool
+is_at k (InWord r) = false
+is_at k (InByte r) = false
+is_at k (InSlot b) = b == k
 
 -- the word of a place to a register, unless it stands there; a byte with its sign
 abbrev pub read : Reg32 → Place → List Item
@@ -58,11 +67,11 @@ target_of (InWord r) = r
 target_of (InByte r) = Esi
 target_of (InSlot k) = Esi
 
--- the result's register has the operand
+-- the operand stands where the result will, in its register or in its slot
 abbrev pub has_operand : Place → Place → Bool
 has_operand (InWord r) operand = is_in r operand
 has_operand (InByte r) operand = false
-has_operand (InSlot k) operand = false
+has_operand (InSlot k) operand = is_at k operand
 
 -- ---- numbers, copies and operations
 
@@ -86,16 +95,44 @@ copy_row (InSlot s) (InSlot d) = plain (insn.MovLoad Esi (below s)) ∷ plain (i
 
 -- the first operand to a register, unless it stands there, the operation, and the result to its place, unless it is
 -- that register
-abbrev pub operation : AluOp → Place → Place → Place → List Item
-operation how result first second =
+abbrev pub by_register : AluOp → Place → Place → Place → List Item
+by_register how result first second =
     read (working result first second) first
     ++ operate how (working result first second) second
     ++ write result (working result first second)
 
--- where the operands commute, the one that stands in the result's register is the first
+-- an operation on a slot, with the word of the second operand in a register: its own, or ESI
+abbrev pub in_slot : AluOp → ℕ → Place → List Item
+in_slot how k second =
+    read (target_of second) second ++ plain (insn.Alu how (rm.Mem (below k)) (target_of second)) ∷ []
+
+-- an operation on two words: on the slot, where the first operand stands in that of the result, else in a register
+abbrev pub operation : AluOp → Place → Place → Place → List Item
+operation how (InWord r) first second = by_register how (InWord r) first second
+operation how (InByte r) first second = by_register how (InByte r) first second
+operation how (InSlot k) first second =
+    if is_at k first then in_slot how k second else by_register how (InSlot k) first second
+
+-- where the operands commute, the one that stands where the result will is the first
 abbrev pub commuting : AluOp → Place → Place → Place → List Item
 commuting how result first second =
     if has_operand result second then operation how result second first else operation how result first second
+
+-- the sum of two registers, as an address (Intel manual, volume 2, LEA)
+abbrev pub sum_of : Reg32 → Reg32 → Mem
+sum_of first second = record { base = Some first; index = Some (second, 1); disp = pos 0 }
+
+-- Two registers are added by LEA, unless one of them is the result's: in that the other is added to it. Words that stand
+-- elsewhere are added as other operands that commute.
+abbrev pub adding : Place → Place → Place → List Item
+adding result (InWord a) (InWord b) =
+    if has_operand result (InWord a) || has_operand result (InWord b)
+    then commuting alu.Add result (InWord a) (InWord b)
+    else plain (insn.Lea (target_of result) (sum_of a b)) ∷ write result (target_of result)
+adding result (InWord a) (InByte b) = commuting alu.Add result (InWord a) (InByte b)
+adding result (InWord a) (InSlot k) = commuting alu.Add result (InWord a) (InSlot k)
+adding result (InByte a) second = commuting alu.Add result (InByte a) second
+adding result (InSlot k) second = commuting alu.Add result (InSlot k) second
 
 -- the word of a place onto the stack
 abbrev pub pass : Place → List Item

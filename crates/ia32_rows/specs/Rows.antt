@@ -14,9 +14,10 @@ use Rattle.flow_graph.specs.declared.op.Op.{Op}
 use Rattle.flow_graph.specs.declared.op.Op.TheVariants as op
 use Rattle.flow_graph.specs.Graphs.{Flow, points_of}
 use Rattle.ia32_rows.specs.Placements.{Placement}
-pub use Rattle.ia32_rows.specs.Moves.{scratch, is_in, read, write, operate, working, has_operand, target_of}
-pub use Rattle.ia32_rows.specs.Moves.{number_row, copy_row, operation, commuting, pass}
-pub use Rattle.ia32_rows.specs.Computing.{multiply, multiplying, changing, low_byte, extend, widening, lowering}
+pub use Rattle.ia32_rows.specs.Moves.{scratch, is_in, is_at, read, write, operate, working, has_operand, target_of}
+pub use Rattle.ia32_rows.specs.Moves.{number_row, copy_row, by_register, in_slot, operation, commuting, sum_of, adding}
+pub use Rattle.ia32_rows.specs.Moves.{pass}
+pub use Rattle.ia32_rows.specs.Computing.{multiply, product_of, multiplying, changing, low_byte, extend, widening, lowering}
 pub use Rattle.ia32_rows.specs.Computing.{extend_half, halving, into_count, shifted_in, shifting, clear_divisor}
 pub use Rattle.ia32_rows.specs.Computing.{divisor_of, before_division, dividing, cond_of, comparing, set_row, setting}
 pub use Rattle.ia32_rows.specs.Computing.{branching, choosing, jumping, same_row}
@@ -25,7 +26,7 @@ pub use Rattle.ia32_rows.specs.Passing.{depth_number, deepen, undeepen, drop_wor
 pub use Rattle.ia32_rows.specs.Passing.{behind_call, call_row, leave, return_row, zeroing, prologue, headers}
 pub use Rattle.ia32_rows.specs.Accesses.{frame_row, static_row, loading, load_from, storing, store_to, get_row, put_row}
 pub use Rattle.ia32_rows.specs.Accesses.{index_register, count_before, element, check_array, check_index, checking}
-pub use Rattle.ia32_rows.specs.Accesses.{load_row, store_row}
+pub use Rattle.ia32_rows.specs.Accesses.{load_row, store_at, store_row}
 pub use Rattle.ia32_rows.specs.Clearing.{clear_row, size_of}
 
 -- ---- slots
@@ -46,8 +47,7 @@ items_between label moves arrays distances before after (op.Low d s) = lowering 
 items_between label moves arrays distances before after (op.Low16 d s) = halving (after d) (before s)
 items_between label moves arrays distances before after (op.Neg d s) = changing insn.Neg (after d) (before s)
 items_between label moves arrays distances before after (op.Not d s) = changing insn.Not (after d) (before s)
-items_between label moves arrays distances before after (op.Add d a b) =
-    commuting alu.Add (after d) (before a) (before b)
+items_between label moves arrays distances before after (op.Add d a b) = adding (after d) (before a) (before b)
 items_between label moves arrays distances before after (op.Sub d a b) =
     operation alu.Sub (after d) (before a) (before b)
 items_between label moves arrays distances before after (op.Mul d a b) = multiplying (after d) (before a) (before b)

@@ -51,15 +51,26 @@ result_to result = record {
   between = λ point next. [];
 }
 
--- Over slots a sum is three instructions. Over registers it is two, and one where the result stands where an operand
--- did; a difference whose result stands where its second operand did goes by ESI.
+-- Over slots a sum is three instructions, and two where the result stands where an operand did. Over registers it is one;
+-- a difference whose result stands where its second operand did goes by ESI.
 abbrev pub SumsAreRows : Type 0
 SumsAreRows =
     (row_in (all_in (InSlot 20) (InSlot 24) (InSlot 28)) (op.Add 2 0 1)
     ≡ plain (insn.MovLoad Esi (below 20)) ∷ plain (insn.AluLoad alu.Add Esi (below 24))
     ∷ plain (insn.Mov (rm.Mem (below 28)) Esi) ∷ [])
     × (row_in (result_to (InWord Edx)) (op.Add 2 0 1)
-    ≡ plain (insn.Mov (rm.Reg Edx) Eax) ∷ plain (insn.Alu alu.Add (rm.Reg Edx) Ecx) ∷ [])
+    ≡ plain (insn.Lea Edx (record { base = Some Eax; index = Some (Ecx, 1); disp = pos 0 })) ∷ [])
+    × (row_in (result_to (InSlot 20)) (op.Add 2 0 1)
+    ≡ plain (insn.Lea Esi (record { base = Some Eax; index = Some (Ecx, 1); disp = pos 0 }))
+    ∷ plain (insn.Mov (rm.Mem (below 20)) Esi) ∷ [])
+    × (row_in (all_in (InSlot 20) (InWord Ecx) (InSlot 24)) (op.Add 0 1 0)
+    ≡ plain (insn.Alu alu.Add (rm.Mem (below 20)) Ecx) ∷ [])
+    × (row_in (all_in (InSlot 20) (InWord Ecx) (InSlot 24)) (op.Sub 0 0 2)
+    ≡ plain (insn.MovLoad Esi (below 24)) ∷ plain (insn.Alu alu.Sub (rm.Mem (below 20)) Esi) ∷ [])
+    × (row_in (all_in (InSlot 20) (InWord Ecx) (InSlot 24)) (op.Sub 0 2 0)
+    ≡ plain (insn.MovLoad Esi (below 24)) ∷ plain (insn.AluLoad alu.Sub Esi (below 20))
+    ∷ plain (insn.Mov (rm.Mem (below 20)) Esi) ∷ [])
+    × (row_in (result_to (InWord Ecx)) (op.Mul 2 0 1) ≡ plain (insn.IMul Ecx (rm.Reg Eax)) ∷ [])
     × (row_in (result_to (InWord Eax)) (op.Add 2 0 1) ≡ plain (insn.Alu alu.Add (rm.Reg Eax) Ecx) ∷ [])
     × (row_in (result_to (InWord Ecx)) (op.Add 2 0 1) ≡ plain (insn.Alu alu.Add (rm.Reg Ecx) Eax) ∷ [])
     × (row_in (result_to (InWord Ecx)) (op.Sub 2 0 1)
@@ -175,8 +186,23 @@ AccessesAreRows =
     ∷ plain (insn.MovLoad Edi (below 24))
     ∷ plain (insn.AluLoad alu.Cmp Edi (record { base = Some Esi; index = None; disp = negsuc 3 }))
     ∷ item.JumpTrap (Some cond.Ae)
-    ∷ plain (insn.Lea Edi (record { base = Some Esi; index = Some (Edi, 4); disp = pos 0 }))
-    ∷ plain (insn.Mov (rm.Mem (near Edi 0)) Ecx)
+    ∷ plain (insn.Mov (rm.Mem (record { base = Some Esi; index = Some (Edi, 4); disp = pos 0 })) Ecx)
+    ∷ [])
+    × (row_in (with_array (InWord Edx) (InWord Ecx) (InSlot 20)) (op.Store Sixteen 0 1 2)
+    ≡ plain (insn.Test (rm.Reg Edx) Edx)
+    ∷ item.JumpTrap (Some cond.E)
+    ∷ plain (insn.AluLoad alu.Cmp Ecx (record { base = Some Edx; index = None; disp = negsuc 3 }))
+    ∷ item.JumpTrap (Some cond.Ae)
+    ∷ plain (insn.Lea Edi (record { base = Some Edx; index = Some (Ecx, 2); disp = pos 0 }))
+    ∷ plain (insn.MovLoad Esi (below 20))
+    ∷ plain (insn.Mov16 (rm.Mem (near Edi 0)) Esi)
+    ∷ [])
+    × (row_in (with_array (InWord Edx) (InWord Ecx) (InWord Ebx)) (op.Store Eight 0 1 2)
+    ≡ plain (insn.Test (rm.Reg Edx) Edx)
+    ∷ item.JumpTrap (Some cond.E)
+    ∷ plain (insn.AluLoad alu.Cmp Ecx (record { base = Some Edx; index = None; disp = negsuc 3 }))
+    ∷ item.JumpTrap (Some cond.Ae)
+    ∷ plain (insn.Mov8 (rm8.Mem (record { base = Some Edx; index = Some (Ecx, 1); disp = pos 0 })) Bl)
     ∷ [])
 
 -- An array is made 0 word by word, from the last one down, in a loop of its own: five elements of two bytes are three

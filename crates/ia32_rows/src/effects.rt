@@ -1,6 +1,6 @@
 ghost use Rattle.ia32_rows.specs.Laws.{StraightGoes, ReadGives, OperateGives, WritePuts, NumberPuts, CopyPuts};
 ghost use Rattle.ia32_rows.specs.Laws.{ExtendGives, CopyBytePuts, CopyToSlotPuts, OperationPuts, CommutingPuts};
-ghost use Rattle.ia32_rows.specs.Laws.{OthersKept};
+ghost use Rattle.ia32_rows.specs.Laws.{SumPuts, OthersKept};
 ghost use Rattle.ia32_rows.specs.Unary.{NegationPuts, ComplementPuts, ExtensionPuts};
 ghost use Rattle.ia32_rows.specs.Products.{ProductPuts};
 
@@ -27,6 +27,7 @@ pub fn rows_compute_words()
     ensures in_register { OperateGives }
     ensures operation { OperationPuts }
     ensures commuting { CommutingPuts }
+    ensures sum { SumPuts }
     ensures product { ProductPuts }
 {}
 

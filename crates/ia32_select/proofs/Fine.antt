@@ -31,11 +31,12 @@ use Rattle.flow_graph.proofs.Numbers.{signed-fits}
 use Rattle.ia32_asm.specs.Parts.{IsInRange, IsIndex, IsIndexed}
 use Rattle.ia32_rows.specs.Placements.{below}
 use Rattle.ia32_rows.specs.Rows.{scratch, read, write, operate, working, has_operand, target_of, number_row, copy_row}
-use Rattle.ia32_rows.specs.Rows.{operation, commuting, pass, multiply, multiplying, changing, low_byte, extend}
+use Rattle.ia32_rows.specs.Rows.{is_at, is_in, by_register, in_slot, operation, commuting, sum_of, adding, pass}
+use Rattle.ia32_rows.specs.Rows.{multiply, product_of, multiplying, changing, low_byte, extend}
 use Rattle.ia32_rows.specs.Rows.{widening}
 use Rattle.ia32_rows.specs.Rows.{lowering, extend_half, halving, into_count, shifted_in, shifting, clear_divisor}
 use Rattle.ia32_rows.specs.Rows.{divisor_of, before_division, dividing, comparing, set_row, argument_word, leave}
-use Rattle.ia32_rows.specs.Rows.{return_row, loading, storing, store_to, index_register, element}
+use Rattle.ia32_rows.specs.Rows.{return_row, loading, storing, store_at, store_to, index_register, element}
 use Rattle.ia32_rows.proofs.ItemKinds.{either-way, all-append}
 
 -- ---- so many items, each of which passes a test
@@ -155,16 +156,47 @@ written : (n : ℕ) (items : List Item) (p : Place) (t : Reg32) → AreFine n it
     → AreFine (n + 2) (items ++ write p t)
 written n items p t a h = join IsFine n 2 items (write p t) a (write-fine p t h)
 
-pub operation-fine : (how : AluOp) (p q r : Place) → IsNear p → IsNear q → IsNear r → AreFine 5 (operation how p q r)
-operation-fine how p q r h k l =
+by_register-fine : (how : AluOp) (p q r : Place) → IsNear p → IsNear q → IsNear r → AreFine 5 (by_register how p q r)
+by_register-fine how p q r h k l =
     let t : Reg32 = working p q r in
     written 3 (read t q ++ operate how t r) p t
     (join IsFine 1 2 (read t q) (operate how t r) (read-fine t q k) (operate-fine how t r l)) h
+
+in_slot-fine : (how : AluOp) (k : ℕ) (r : Place) → k ≤ 0x4000 → IsNear r → AreFine 5 (in_slot how k r)
+in_slot-fine how k r h l =
+    let t : Reg32 = target_of r in
+    let change : List Item = plain (insn.Alu how (rm.Mem (below k)) t) ∷ [] in
+    join IsFine 1 4 (read t r) change (read-fine t r l) (one 3 (insn.Alu how (rm.Mem (below k)) t) (fits-below k h) tt)
+
+pub operation-fine : (how : AluOp) (p q r : Place) → IsNear p → IsNear q → IsNear r → AreFine 5 (operation how p q r)
+operation-fine how (InWord d) q r h k l = by_register-fine how (InWord d) q r h k l
+operation-fine how (InByte d) q r h k l = by_register-fine how (InByte d) q r h k l
+operation-fine how (InSlot b) q r h k l =
+    either-way (AreFine 5) (is_at b q) (in_slot how b r) (by_register how (InSlot b) q r) (in_slot-fine how b r h l)
+    (by_register-fine how (InSlot b) q r h k l)
 
 pub commuting-fine : (how : AluOp) (p q r : Place) → IsNear p → IsNear q → IsNear r → AreFine 5 (commuting how p q r)
 commuting-fine how p q r h k l =
     either-way (AreFine 5) (has_operand p r) (operation how p r q) (operation how p q r)
     (operation-fine how p r q h l k) (operation-fine how p q r h k l)
+
+-- the address of two registers
+sum-fine : (p : Place) (a b : Reg32) → IsNear p → IsGeneral b
+    → AreFine 5 (plain (insn.Lea (target_of p) (sum_of a b)) ∷ write p (target_of p))
+sum-fine p a b h k =
+    let lea : Insn = insn.Lea (target_of p) (sum_of a b) in
+    written 3 (plain lea ∷ []) p (target_of p) (one 2 lea (fits-near 0 (omega arith)) (general-index b k, refl)) h
+
+pub adding-fine : (p q r : Place) → IsNear p → IsNear q → IsNear r → AreFine 5 (adding p q r)
+adding-fine p (InWord a) (InWord b) h k l =
+    either-way (AreFine 5) (has_operand p (InWord a) || has_operand p (InWord b))
+    (commuting alu.Add p (InWord a) (InWord b))
+    (plain (insn.Lea (target_of p) (sum_of a b)) ∷ write p (target_of p))
+    (commuting-fine alu.Add p (InWord a) (InWord b) h k l) (sum-fine p a b h l)
+adding-fine p (InWord a) (InByte b) h k l = commuting-fine alu.Add p (InWord a) (InByte b) h k l
+adding-fine p (InWord a) (InSlot b) h k l = commuting-fine alu.Add p (InWord a) (InSlot b) h k l
+adding-fine p (InByte a) r h k l = commuting-fine alu.Add p (InByte a) r h k l
+adding-fine p (InSlot a) r h k l = commuting-fine alu.Add p (InSlot a) r h k l
 
 pub pass-fine : (p : Place) → IsNear p → AreFine 2 (pass p)
 pass-fine (InWord r) h = one 1 (insn.Push (rm.Reg r)) tt tt
@@ -179,11 +211,16 @@ multiply-fine t (InByte r) h =
     two 0 (insn.MovSx8 Edi (rm8.Reg r)) (insn.IMul t (rm.Reg Edi)) (tt, tt) (tt, tt)
 multiply-fine t (InSlot k) h = one 1 (insn.IMul t (rm.Mem (below k))) (fits-below k h) tt
 
-pub multiplying-fine : (p q r : Place) → IsNear p → IsNear q → IsNear r → AreFine 5 (multiplying p q r)
-multiplying-fine p q r h k l =
+product-fine : (p q r : Place) → IsNear p → IsNear q → IsNear r → AreFine 5 (product_of p q r)
+product-fine p q r h k l =
     let t : Reg32 = working p q r in
     written 3 (read t q ++ multiply t r) p t
     (join IsFine 1 2 (read t q) (multiply t r) (read-fine t q k) (multiply-fine t r l)) h
+
+pub multiplying-fine : (p q r : Place) → IsNear p → IsNear q → IsNear r → AreFine 5 (multiplying p q r)
+multiplying-fine p q r h k l =
+    either-way (AreFine 5) (is_in (target_of p) r) (product_of p r q) (product_of p q r) (product-fine p r q h l k)
+    (product-fine p q r h k l)
 
 pub changing-fine : (how : Rm32 → Insn) (p q : Place) → ((r : Reg32) → IsFine (plain (how (rm.Reg r)))) → IsNear p
     → IsNear q → AreFine 4 (changing how p q)
@@ -317,21 +354,33 @@ loading-fine Eight t m h k = (h, k)
 loading-fine Sixteen t m h k = (h, k)
 loading-fine ThirtyTwo t m h k = (h, k)
 
-storing-fine : (bits : Bits) (p : Place) → AreFine 3 (storing bits p)
-storing-fine ThirtyTwo p =
-    one 2 (insn.Mov (rm.Mem (near Edi 0)) (target_of p)) (fits-near 0 (omega arith)) tt
-storing-fine Sixteen p =
-    one 2 (insn.Mov16 (rm.Mem (near Edi 0)) (target_of p)) (fits-near 0 (omega arith)) tt
-storing-fine Eight (InWord r) =
-    one 2 (insn.Mov8 (rm8.Mem (near Edi 0)) (low_byte r)) (fits-near 0 (omega arith)) tt
-storing-fine Eight (InByte r) = one 2 (insn.Mov8 (rm8.Mem (near Edi 0)) r) (fits-near 0 (omega arith)) tt
-storing-fine Eight (InSlot k) =
-    three (insn.Xchg (rm.Reg Esi) Eax) (insn.Mov8 (rm8.Mem (near Edi 0)) Al) (insn.Xchg (rm.Reg Esi) Eax)
-    (tt, tt) (fits-near 0 (omega arith), tt) (tt, tt)
+storing-fine : (bits : Bits) (m : Mem) (p : Place) → FitsSigned w32 m.disp → IsIndex m.index
+    → AreFine 3 (storing bits m p)
+storing-fine ThirtyTwo m p h k = one 2 (insn.Mov (rm.Mem m) (target_of p)) h k
+storing-fine Sixteen m p h k = one 2 (insn.Mov16 (rm.Mem m) (target_of p)) h k
+storing-fine Eight m (InWord r) h k = one 2 (insn.Mov8 (rm8.Mem m) (low_byte r)) h k
+storing-fine Eight m (InByte r) h k = one 2 (insn.Mov8 (rm8.Mem m) r) h k
+storing-fine Eight m (InSlot b) h k =
+    three (insn.Xchg (rm.Reg Esi) Eax) (insn.Mov8 (rm8.Mem m) Al) (insn.Xchg (rm.Reg Esi) Eax) (tt, tt) (h, k) (tt, tt)
 
 pub store_to-fine : (bits : Bits) (p : Place) → IsNear p → AreFine 4 (store_to bits p)
 store_to-fine bits p h =
-    join IsFine 1 3 (read (target_of p) p) (storing bits p) (read-fine (target_of p) p h) (storing-fine bits p)
+    join IsFine 1 3 (read (target_of p) p) (storing bits (near Edi 0) p) (read-fine (target_of p) p h)
+    (storing-fine bits (near Edi 0) p (fits-near 0 (omega arith)) tt)
+
+-- the address of an element to EDI, and the value on to it
+store-behind : (bits : Bits) (m : Mem) (p : Place) → IsNear p → FitsSigned w32 m.disp → IsIndex m.index
+    → AreFine 5 (plain (insn.Lea Edi m) ∷ store_to bits p)
+store-behind bits m p h k l =
+    join IsFine 1 4 (plain (insn.Lea Edi m) ∷ []) (store_to bits p) (one 0 (insn.Lea Edi m) k l)
+    (store_to-fine bits p h)
+
+pub store_at-fine : (bits : Bits) (m : Mem) (p : Place) → IsNear p → FitsSigned w32 m.disp → IsIndex m.index
+    → AreFine 5 (store_at bits m p)
+store_at-fine bits m (InWord r) h k l =
+    wider 4 (storing bits m (InWord r)) (wider 3 (storing bits m (InWord r)) (storing-fine bits m (InWord r) k l))
+store_at-fine bits m (InByte r) h k l = store-behind bits m (InByte r) h k l
+store_at-fine bits m (InSlot b) h k l = store-behind bits m (InSlot b) h k l
 
 index-general : (p : Place) → IsNear p → number32 (index_register p) ≢ 4
 index-general (InWord r) h = general-index r h

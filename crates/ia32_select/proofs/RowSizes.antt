@@ -36,20 +36,21 @@ use Rattle.ia32_asm.proofs.Laying.{items_size-append}
 use Rattle.ia32_asm.proofs.SpelledOperands.{spelling-indexed}
 use Rattle.ia32_rows.specs.Filling.{fill}
 use Rattle.ia32_rows.specs.Placements.{below}
-use Rattle.ia32_rows.specs.Rows.{items_between, read, target_of, write, number_row, copy_row, operation, commuting}
+use Rattle.ia32_rows.specs.Rows.{items_between, read, target_of, write, number_row, copy_row, operation, commuting, adding}
 use Rattle.ia32_rows.specs.Rows.{multiplying, changing, widening, lowering, halving, shifting, dividing, comparing}
 use Rattle.ia32_rows.specs.Rows.{choosing, cond_of, jumping, zeroing}
 use Rattle.ia32_rows.specs.Rows.{set_row, pass, pass_all, argument_word, deepen, undeepen, drop_words, write_any}
 use Rattle.ia32_rows.specs.Rows.{before_call, behind_call, call_row, leave, return_row, prologue, size_of}
 use Rattle.ia32_rows.specs.Rows.{clear_row, loading, load_from, store_to, index_register, count_before, element}
-use Rattle.ia32_rows.specs.Rows.{check_array, check_index, checking, load_row, store_row}
+use Rattle.ia32_rows.specs.Rows.{check_array, check_index, checking, load_row, store_at, store_row}
 use Rattle.ia32_rows.proofs.ItemKinds.{all-append, all-weaker}
-use Rattle.ia32_select.proofs.Fine.{AreFine, IsFine, IsNear, Within, argument-fits, changing-fine, commuting-fine}
+use Rattle.ia32_select.proofs.Fine.{AreFine, IsFine, IsNear, Within, adding-fine, argument-fits, changing-fine}
+use Rattle.ia32_select.proofs.Fine.{commuting-fine}
 use Rattle.ia32_select.proofs.Fine.{comparing-fine, copy-fine, dividing-fine, element-index, fits-below, fits-near}
 use Rattle.ia32_select.proofs.Fine.{halving-fine, join, leaves, loading-fine, lowering-fine, multiplying-fine}
 use Rattle.ia32_select.proofs.Fine.{number-fine}
 use Rattle.ia32_select.proofs.Fine.{operation-fine, pass-fine, read-fine, return-fine, set-fine, shifting-fine}
-use Rattle.ia32_select.proofs.Fine.{store_to-fine, widening-fine, write-fine}
+use Rattle.ia32_select.proofs.Fine.{store_at-fine, store_to-fine, widening-fine, write-fine}
 use Rattle.ia32_select.proofs.Short.{items-short, pass_all-short}
 
 -- ---- what items jump to, call and name
@@ -265,10 +266,9 @@ module _ (whole : List Item) (functions objects : ℕ) where
   store-good : (bits : Bits) (p q r : Place) → IsNear p → IsNear q → IsNear r → Good 11 (store_row bits p q r)
   store-good bits p q r h k l =
       let m : Mem = element (bytes_of bits) (target_of p) (index_register q) in
-      both 6 5 (checking p q) (plain (insn.Lea Edi m) ∷ store_to bits r) (checking-good p q h k)
-      (first 4 (plain (insn.Lea Edi m)) (store_to bits r)
-      (fits-near 0 (omega arith), element-index bits (target_of p) q k)
-      (good 4 (store_to bits r) (store_to-fine bits r l)))
+      both 6 5 (checking p q) (store_at bits m r) (checking-good p q h k)
+      (good 5 (store_at bits m r)
+      (store_at-fine bits m r l (fits-near 0 (omega arith)) (element-index bits (target_of p) q k)))
 
   -- ---- loops
 
@@ -400,8 +400,8 @@ module _ (whole : List Item) (functions objects : ℕ) where
       fits-fine 0 4 (changing insn.Not (after d) (before s)) (omega arith)
       (changing-fine insn.Not (after d) (before s) (λ r. (tt, tt)) (a d) (b s))
   row-fits label moves arrays distances before after (op.Add d x y) b a k numbers names labels going few =
-      fits-fine 0 5 (commuting alu.Add (after d) (before x) (before y)) (omega arith)
-      (commuting-fine alu.Add (after d) (before x) (before y) (a d) (b x) (b y))
+      fits-fine 0 5 (adding (after d) (before x) (before y)) (omega arith)
+      (adding-fine (after d) (before x) (before y) (a d) (b x) (b y))
   row-fits label moves arrays distances before after (op.Sub d x y) b a k numbers names labels going few =
       fits-fine 0 5 (operation alu.Sub (after d) (before x) (before y)) (omega arith)
       (operation-fine alu.Sub (after d) (before x) (before y) (a d) (b x) (b y))

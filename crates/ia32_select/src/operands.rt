@@ -2,7 +2,7 @@
 
 ghost use Rattle.std.specs.Prelude.{◌≡◌, ◌<◌, ◌^◌, ◌++◌, OnOk, length, map, option_map, slice_index_or};
 ghost use Rattle.ia32_insn.specs.declared.insn.AluOp.TheVariants as alu;
-ghost use Rattle.ia32_rows.specs.Rows.{call_row, clear_row, commuting, dividing, load_row, loop_label};
+ghost use Rattle.ia32_rows.specs.Rows.{adding, call_row, clear_row, commuting, dividing, load_row, loop_label};
 ghost use Rattle.ia32_rows.specs.Rows.{multiplying, operation, setting, shifting, size_of, store_row};
 ghost use Rattle.ia32_emit.specs.Locations.{slots_of};
 ghost use Rattle.ia32_select.specs.Sites.{HasPoint, after_at, before_at, flow_of};
@@ -12,10 +12,32 @@ use crate::site::{Site, after, all_before, any_after, array_at, array_of, before
 use flow_graph::{Bits, Comparison, Words};
 use ia32_emit::{
     emit_call, emit_commuting, emit_division, emit_load, emit_operation, emit_product, emit_set,
-    emit_shift, emit_store,
+    emit_shift, emit_store, emit_sum,
 };
 use ia32_insn::{AluOp, Item, Reg32, ShiftOp};
 use pcc_base::NoMemory;
+
+/// The sum of two variables.
+pub fn sum(
+    out: &mut Vec<Item>,
+    site: &Site<'_>,
+    point: u32,
+    to: &u32,
+    first: &u32,
+    second: &u32,
+) -> Result<(), NoMemory>
+    requires { HasPoint site.now point }
+    ensures { OnOk result (out.new.items ≡ out.old.items
+        ++ adding (after_at site.now point to.now) (before_at site.now point first.now)
+        (before_at site.now point second.now)) }
+{
+    emit_sum(
+        out,
+        after(site, point, to),
+        before(site, point, first),
+        before(site, point, second),
+    )
+}
 
 /// An operation on two variables that commute.
 pub fn commuting(

@@ -7,7 +7,7 @@ ghost use Rattle.ia32_select.specs.Sites.{HasPoint, flow_of, placement_of};
 
 use crate::branches::{branch, jump};
 use crate::operands::{
-    call, clear, commuting, difference, division, load, product, set, shift, store,
+    call, clear, commuting, difference, division, load, product, set, shift, store, sum,
 };
 use crate::site::{Site, after, array_at, before};
 use flow_graph::Op;
@@ -39,7 +39,7 @@ pub fn emit_op(out: &mut Vec<Item>, site: &Site<'_>, point: u32, op: &Op) -> Res
             after(site, point, to),
             before(site, point, from),
         ),
-        Op::Add(to, first, second) => commuting(out, site, point, AluOp::Add, to, first, second),
+        Op::Add(to, first, second) => sum(out, site, point, to, first, second),
         Op::Sub(to, first, second) => difference(out, site, point, to, first, second),
         Op::Mul(to, first, second) => product(out, site, point, to, first, second),
         Op::And(to, first, second) => commuting(out, site, point, AluOp::And, to, first, second),

@@ -1,6 +1,6 @@
 //! Tests of the public calls of the crates `ia32_..`: what registers, memory and arithmetic do (`registers`,
 //! `memory`, `arithmetic`), the bytes of instructions there and back (`spellings`, `decoding`), the sections of items
-//! (`items`), the items of a function (`functions`), and runs of images (`machine`); of `parallel_copies`, whose
+//! (`items`), the items of a function (`functions`) and of single ops (`short_rows`), and runs of images (`machine`); of `parallel_copies`, whose
 //! instructions the machine runs (`copies`); and of `elf_image` (`images`), `elf_link` (`linking`) and `map_text`
 //! (`maps`, `map_lines`).
 //!
@@ -36,5 +36,7 @@ mod memory;
 mod registers;
 #[cfg(test)]
 mod rows;
+#[cfg(test)]
+mod short_rows;
 #[cfg(test)]
 mod spellings;
