@@ -1,7 +1,8 @@
 //! The rules `postfix` and `primary`.
 
 ghost use Rattle.std.specs.Prelude.{◌≡◌, ◌<◌, ◌≤◌, Some, length, suc, IfOk};
-ghost use Rattle.c_grammar.specs.Chains.{Found, then_read};
+ghost use Rattle.c_grammar.specs.Chains as chains;
+ghost use Rattle.c_grammar.specs.Chains.{then_read};
 ghost use Rattle.c_syntax.specs.Expressions.{expr_of, exprs_of, Call};
 ghost use Rattle.c_syntax.specs.ExpressionTokens.{expr_height};
 ghost use Rattle.c_grammar.specs.Reading.{read_postfix, read_primary, read_arguments, suffix_step, value_step};
@@ -156,7 +157,7 @@ fn parenthesised(
 #[inline(never)]
 fn texts(cursor: &mut Cursor<'_>, first: &Name, at: Span) -> Result<Found, NoMemory>
     ensures read { IfOk result (λ f. text_from (record { bytes = first.now; at = at }) (take_texts cursor.old.rest.now)
-        ≡ Found (expr_of f.tree.value) cursor.new.rest.now) }
+        ≡ chains.Found (expr_of f.tree.value) cursor.new.rest.now) }
     ensures fewer { IfOk result (λ _. length cursor.new.rest.now ≤ length cursor.old.rest.now) }
     ensures height { IfOk result (λ f. (f.height ≡ 1) × (f.height ≡ expr_height (expr_of f.tree.value))) }
 {
@@ -213,7 +214,7 @@ fn call_closed(
     requires arguments { arguments.height ≡ height_of_values arguments }
     requires within { arguments.height ≤ 256 }
     ensures read { IsRead (λ (f : Tree). expr_of f.tree.value) (λ ts. then_read (read_mark Punct.RightParen ts)
-        (λ close us. Found (Call name opening (exprs_of (values_of arguments).0) (values_of arguments).1 close) us))
+        (λ close us. chains.Found (Call name opening (exprs_of (values_of arguments).0) (values_of arguments).1 close) us))
         cursor.old.rest.now cursor.new.rest.now result }
     ensures height { IfOk result (λ f. (f.height ≡ expr_height (expr_of f.tree.value))
         × (f.height ≡ suc arguments.height)) }
