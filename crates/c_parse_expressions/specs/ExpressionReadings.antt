@@ -1,8 +1,8 @@
 -- What the parser's functions answer, by the readers of the grammar.
-use Rattle.std.specs.Prelude.{◌≡◌, ℕ, ◌<◌, ◌≤◌, List, length, map, Some, Result, Ok, Err, ◌-◌}
+use Rattle.std.specs.Prelude.{◌≡◌, ℕ, ◌<◌, ◌≤◌, List, length, Result, Ok, Err, ◌-◌}
 use Rattle.c_lex.specs.declared.token.Token.{Token}
-use Rattle.c_syntax.specs.Expressions.{Expr, exprs_of, expr_of}
-use Rattle.c_syntax.specs.ExpressionTokens.{expr_height, exprs_height}
+use Rattle.c_syntax.specs.Expressions.{Expr, expr_of}
+use Rattle.c_syntax.specs.ExpressionTokens.{expr_height}
 use Rattle.c_grammar.specs.Chains.{Step, Done, Goes, Reads, Found}
 use Rattle.c_grammar.specs.Reading as reading
 use Rattle.c_grammar.specs.Reading.{Readers, readers}

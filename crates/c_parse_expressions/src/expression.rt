@@ -93,6 +93,7 @@ pub fn expression(cursor: &mut Cursor<'_>, height: Height) -> Result<Found, Pars
 }
 
 /// The right operand of an operator, a tree of this rule, behind the left one and the operator
+#[tactic(auto, using(crate::proofs::Rooms::part_is_low, crate::proofs::Rooms::part_is_high))]
 #[inline(never)]
 #[cycle(expression)]
 fn infix_behind(
@@ -149,6 +150,7 @@ pub fn assignment(cursor: &mut Cursor<'_>, height: Height) -> Result<Found, Pars
 }
 
 /// `assignment`, behind an expression and an assignment operator
+#[tactic(auto, using(crate::proofs::Rooms::part_is_low, crate::proofs::Rooms::part_is_high))]
 #[inline(never)]
 #[cycle(expression)]
 fn assignment_behind(
@@ -193,6 +195,7 @@ pub fn conditional(cursor: &mut Cursor<'_>, height: Height) -> Result<Found, Par
 }
 
 /// `expression ':' conditional`, behind a condition and the `?`
+#[tactic(auto, using(crate::proofs::Rooms::part_is_low, crate::proofs::Rooms::part_is_high))]
 #[inline(never)]
 #[cycle(expression)]
 fn conditional_behind(
@@ -319,6 +322,7 @@ fn cast(cursor: &mut Cursor<'_>, height: Height) -> Result<Found, ParseError>
 }
 
 /// `specifiers pointer? ')' cast`, behind the `(`
+#[tactic(auto, using(crate::proofs::Rooms::room_below, crate::proofs::Rooms::no_room_below))]
 #[inline(never)]
 #[cycle(expression)]
 fn cast_behind(cursor: &mut Cursor<'_>, opening: Span, height: Height) -> Result<Found, ParseError>
@@ -351,6 +355,7 @@ fn unary(cursor: &mut Cursor<'_>, height: Height) -> Result<Found, ParseError>
 }
 
 /// `unary`, behind `++` or `--`
+#[tactic(auto, using(crate::proofs::Rooms::room_below, crate::proofs::Rooms::no_room_below))]
 #[inline(never)]
 #[cycle(expression)]
 fn prefix_behind(
@@ -368,6 +373,7 @@ fn prefix_behind(
 }
 
 /// `cast`, behind an operator before an operand
+#[tactic(auto, using(crate::proofs::Rooms::room_below, crate::proofs::Rooms::no_room_below))]
 #[inline(never)]
 #[cycle(expression)]
 fn unary_behind(

@@ -42,6 +42,7 @@ pub(crate) fn postfix(cursor: &mut Cursor<'_>, height: Height) -> Result<Found, 
 }
 
 /// `'[' expression ']'`, `'++'` or `'--'`
+#[tactic(auto, using(crate::proofs::Rooms::part_is_low, crate::proofs::Rooms::part_is_high))]
 #[inline(never)]
 #[cycle(expression)]
 fn suffix(cursor: &mut Cursor<'_>, base: Found, height: Height) -> Result<Turn, ParseError>
@@ -65,6 +66,7 @@ fn suffix(cursor: &mut Cursor<'_>, base: Found, height: Height) -> Result<Turn, 
 }
 
 /// `expression ']'`, behind an expression and the `[`
+#[tactic(auto, using(crate::proofs::Rooms::part_is_low, crate::proofs::Rooms::part_is_high))]
 #[inline(never)]
 #[cycle(expression)]
 fn index_behind(
@@ -135,6 +137,7 @@ fn primary(cursor: &mut Cursor<'_>, height: Height) -> Result<Found, ParseError>
 }
 
 /// `'(' expression ')'`, behind the mark
+#[tactic(auto, using(crate::proofs::Rooms::room_below, crate::proofs::Rooms::no_room_below))]
 #[inline(never)]
 #[cycle(expression)]
 fn parenthesised(
