@@ -22,32 +22,38 @@ use Rattle.c_syntax.specs.Expressions.{OneExpr}
 use Rattle.c_syntax.specs.ExpressionTokens.{expr_tokens, exprs_tokens, more_tokens, specifiers_tokens, consts_tokens}
 use Rattle.c_syntax.specs.ExpressionTokens.{pointer_tokens, expr_height, exprs_height, looseness, IsExpr, AreValues}
 use Rattle.c_syntax.specs.ExpressionTokens.{Separate, Follow, binary_level}
-use Rattle.c_grammar.specs.Chains.{Goes, Reads, chained}
+use Rattle.c_grammar.specs.Chains.{Goes, Reads, Found, chained}
 use Rattle.c_grammar.proofs.Chains.{Continues, continues_start, continues_from, continues_goes, continues_done}
 use Rattle.c_grammar.specs.Taking.{specifier_of_word, take_mark, take_specifiers, take_consts, take_pointer}
 use Rattle.c_grammar.specs.Reading.{Reader, Readers, Values, readers, readers_over, value_step, suffix_step, infix_step}
 use Rattle.c_grammar.specs.Reading.{read_arguments, read_primary, read_postfix, read_unary, read_cast, read_infix}
 use Rattle.c_grammar.specs.Reading.{read_binary, read_conditional, read_assignment, read_expression}
-use Rattle.c_grammar.proofs.Reading.{cast_reads, readers-suc}
+use Rattle.c_grammar.proofs.Reading.{cast_reads, readers-none, readers-suc}
 use Rattle.c_grammar.proofs.Stops.{mark_joins, joins, Stops, stops_tighter, stops_mark, stops_step, stops_assign}
 use Rattle.c_grammar.proofs.Stops.{stops_binary, takes_step, takes_unary, takes_assign, takes_binary, takes_texts}
 use Rattle.c_grammar.proofs.Stops.{unary_no_step, binary_joins, assign_joins, step_joins, step_no_bracket}
-use Rattle.c_grammar.proofs.Heads.{expression_no_mark, postfix_no_step, postfix_no_unary, no_cast}
+use Rattle.c_grammar.proofs.Heads.{expression_no_mark, postfix_no_step, postfix_no_unary}
+use Rattle.c_grammar.proofs.NoCasts.{no_cast}
 
 -- a reader finds the trees that are at most so loose and so high
 abbrev pub Finds : ℕ → ℕ → Reader → Type 0
 Finds c h reader =
     (t : Expr) (rest : List Token) → IsExpr t → looseness t ≤ c → expr_height t ≤ h → Stops c rest
-    → reader (expr_tokens t ++ rest) ≡ Some (t, rest)
+    → reader (expr_tokens t ++ rest) ≡ Found t rest
 
 -- readers of all rules for one height
 pub record Complete (h : ℕ) (b : Readers) : Type 0 where
+  pub height : b.height ≡ h
   pub expression : Finds 16 h b.expression
   pub assignment : Finds 15 h b.assignment
   pub conditional : Finds 14 h b.conditional
   pub binary : (k : ℕ) → k ≤ 10 → (c : ℕ) → c ≡ k + 3 → Finds c h (b.binary k)
   pub cast : Finds 3 h b.cast
   pub unary : Finds 2 h b.unary
+
+-- there is room for a node's parts
+pub has_room : (h : ℕ) (b : Readers) → Complete h b → 1 ≤ h → ltb 0 b.height ≡ true
+has_room h b cb some = lt-ltb 0 b.height (omega (arith, cb.height))
 
 -- ---- numbers
 
@@ -158,7 +164,7 @@ values_continue n b cb (OneExpr e es) (at ∷ commas) a rest out are follow low 
     (let more : List Token = more_tokens es commas ++ rest in
     let group : (expr_tokens e ++ more_tokens es commas) ++ rest ≡ expr_tokens e ++ more =
     append_assoc (expr_tokens e) (more_tokens es commas) rest in
-    let read : b.assignment (expr_tokens e ++ more) ≡ Some (e, more) =
+    let read : b.assignment (expr_tokens e ++ more) ≡ Found e more =
     cb.assignment e more are.0 are.1 (omega arith) (stops_more es commas rest stops) in
     let goes : value_step b a (more_tokens (OneExpr e es) (at ∷ commas) ++ rest)
     ≡ Goes (a.0 ++ e ∷ [], a.1 ++ at ∷ []) more = rw (group, read) refl in
@@ -184,19 +190,19 @@ arguments_read : (n : ℕ) (b : Readers) → Complete n b → (es : Exprs) (comm
     →
     AreValues es → Separate es commas → exprs_height es ≤ n →
     read_arguments b (exprs_tokens es commas ++ mark marks.RightParen c ∷ rest)
-    ≡ Some ((list_of es, commas), mark marks.RightParen c ∷ rest)
+    ≡ Found (list_of es, commas) (mark marks.RightParen c ∷ rest)
 arguments_read n b cb NoExpr commas c rest are apart low = rw apart refl
 arguments_read n b cb (OneExpr e es) commas c rest are apart low =
     (let close : List Token = mark marks.RightParen c ∷ rest in
     let more : List Token = more_tokens es commas ++ close in
     let group : (expr_tokens e ++ more_tokens es commas) ++ close ≡ expr_tokens e ++ more =
     append_assoc (expr_tokens e) (more_tokens es commas) close in
-    let read : b.assignment (expr_tokens e ++ more) ≡ Some (e, more) =
+    let read : b.assignment (expr_tokens e ++ more) ≡ Found e more =
     cb.assignment e more are.0 are.1 (omega arith) (first_stops es commas close (omega arith)) in
     let begun : Continues (value_step b) (e ∷ [], []) more (chained (value_step b) (e ∷ [], []) more) =
     continues_start (value_step b) (e ∷ [], []) more in
     let all = values_continue n b cb es commas (e ∷ [], []) close _ are.2 apart (omega arith) (omega arith) begun in
-    let end : chained (value_step b) (e ∷ [], []) more ≡ Some ((e ∷ list_of es, commas), close) =
+    let end : chained (value_step b) (e ∷ [], []) more ≡ Found (e ∷ list_of es, commas) close =
     continues_done _ _ _ _ all refl in
     rw (group, expression_no_mark marks.RightParen e more are.0 refl, read) end)
   where
@@ -216,7 +222,11 @@ finds_primary n b cb (Parenthesised o e c) rest is loose low stops =
     (let close : List Token = mark marks.RightParen c ∷ rest in
     let group : (expr_tokens e ++ mark marks.RightParen c ∷ []) ++ rest ≡ expr_tokens e ++ close =
     append_assoc (expr_tokens e) (mark marks.RightParen c ∷ []) rest in
-    rw (group, cb.expression e close is (loosest e) (omega arith) (omega arith)) refl)
+    rw (
+      has_room n b cb (omega (arith, height_above e)),
+      group,
+      cb.expression e close is (loosest e) (omega arith) (omega arith),
+    ) refl)
 finds_primary n b cb (Call f o arguments commas c) rest is loose low stops =
     (let close : List Token = mark marks.RightParen c ∷ rest in
     let group : (exprs_tokens arguments commas ++ mark marks.RightParen c ∷ []) ++ rest
@@ -254,7 +264,7 @@ suffixes n b cb (Index base o e c) rest is loose low stops =
     let before : Suffixes n b base (more ++ rest) =
     suffixes n b cb base (more ++ rest) is.0 is.1 (omega arith) (omega arith) in
     let lower : ltb (expr_height base) (suc n) ≡ true = lt-ltb (expr_height base) (suc n) (omega arith) in
-    let read : b.expression (expr_tokens e ++ close) ≡ Some (e, close) =
+    let read : b.expression (expr_tokens e ++ close) ≡ Found e close =
     cb.expression e close is.2 (loosest e) (omega arith) (omega arith) in
     let goes : suffix_step (suc n) b base (more ++ rest) ≡ Goes (Index base o e c) rest =
     rw (lower, group, read) refl in
@@ -299,18 +309,23 @@ finds_postfix n b cb t rest is loose low stops =
 -- ---- unary and cast
 
 unary_tight : (n : ℕ) (b : Readers) → Complete n b → (t : Expr) (rest : List Token) → IsExpr t → looseness t ≤ 1
-    → expr_height t ≤ suc n → Stops 1 rest → read_unary (suc n) b (expr_tokens t ++ rest) ≡ Some (t, rest)
+    → expr_height t ≤ suc n → Stops 1 rest → read_unary (suc n) b (expr_tokens t ++ rest) ≡ Found t rest
 unary_tight n b cb t rest is loose low stops =
     rw (postfix_no_step t rest is loose, postfix_no_unary t rest is loose)
     (finds_postfix n b cb t rest is loose low stops)
 
 pub finds_unary : (n : ℕ) (b : Readers) → Complete n b → Finds 2 (suc n) (read_unary (suc n) b)
 finds_unary n b cb (Prefix op at e) rest is loose low stops =
-    rw (takes_step op at (expr_tokens e ++ rest), cb.unary e rest is.0 is.1 (omega arith) stops) refl
+    rw (
+      takes_step op at (expr_tokens e ++ rest),
+      has_room n b cb (omega (arith, height_above e)),
+      cb.unary e rest is.0 is.1 (omega arith) stops,
+    ) refl
 finds_unary n b cb (Unary op at e) rest is loose low stops =
     rw (
       unary_no_step op at (expr_tokens e ++ rest),
       takes_unary op at (expr_tokens e ++ rest),
+      has_room n b cb (omega (arith, height_above e)),
       cb.cast e rest is.0 is.1 (omega arith) (stops_cast rest stops),
     ) refl
 finds_unary n b cb (Identifier name) rest is loose low stops =
@@ -335,7 +350,7 @@ finds_unary n b cb (Assignment op l at r) rest is loose low stops = absurd (omeg
 
 -- no cast, so a unary expression
 cast_tight : (n : ℕ) (b : Readers) → Complete n b → (t : Expr) (rest : List Token) → IsExpr t → looseness t ≤ 2
-    → expr_height t ≤ suc n → Stops 3 rest → read_cast (suc n) b (expr_tokens t ++ rest) ≡ Some (t, rest)
+    → expr_height t ≤ suc n → Stops 3 rest → read_cast (suc n) b (expr_tokens t ++ rest) ≡ Found t rest
 cast_tight n b cb t rest is loose low stops = no_cast (suc n) b t rest is loose
     ∙ finds_unary n b cb t rest is loose low (stops_tighter 3 2 rest stops (omega arith))
 
@@ -353,9 +368,12 @@ finds_cast n b cb (Cast o (s ∷ ss) pointer c e) rest is loose low stops =
     takes_specifiers (s ∷ ss) (pointer_tokens pointer ++ close) (pointer_no_specifier pointer close refl) in
     let pointer_read : take_pointer (pointer_tokens pointer ++ close) ≡ (pointer, close) =
     takes_pointer pointer close refl refl in
-    let operand_read : b.cast (expr_tokens e ++ rest) ≡ Some (e, rest) = cb.cast e rest is.1 is.2 (omega arith) stops in
+    let operand_read : b.cast (expr_tokens e ++ rest) ≡ Found e rest = cb.cast e rest is.1 is.2 (omega arith) stops in
+    let inside : take_specifiers ((specifiers_tokens (s ∷ ss) ++ (pointer_tokens pointer
+    ++ mark marks.RightParen c ∷ expr_tokens e)) ++ rest) ≡ (s ∷ ss, pointer_tokens pointer ++ close) =
+    ap take_specifiers group ∙ words_read in
     cast_reads (suc n) b (expr_tokens (Cast o (s ∷ ss) pointer c e) ++ rest) _ (pointer_tokens pointer ++ close) o s ss
-    refl (ap take_specifiers group ∙ words_read) ∙ rw (pointer_read, operand_read) refl)
+    refl inside ∙ rw (has_room n b cb (omega (arith, height_above e)), inside, pointer_read, operand_read) refl)
 finds_cast n b cb (Identifier name) rest is loose low stops =
     cast_tight n b cb (Identifier name) rest is (omega arith) low stops
 finds_cast n b cb (Number value at) rest is loose low stops =
@@ -394,7 +412,7 @@ infix_one : (k n c : ℕ) (operand right : Reader) → c + 1 ≡ k + 3 → Finds
 infix_one k n c operand right sum found op l at r rest is loose level low stops before =
     (let more : List Token = mark (binary_mark op) at ∷ expr_tokens r in
     let lower : ltb (expr_height l) (suc n) ≡ true = lt-ltb (expr_height l) (suc n) (omega arith) in
-    let read : right (expr_tokens r ++ rest) ≡ Some (r, rest) = found r rest is (omega arith) (omega arith) stops in
+    let read : right (expr_tokens r ++ rest) ≡ Found r rest = found r rest is (omega arith) (omega arith) stops in
     let goes : infix_step k (suc n) right l (more ++ rest) ≡ Goes (Binary op l at r) rest =
     rw (takes_binary op k at (expr_tokens r ++ rest) level, lower, read) refl in
     let less : length rest < length (more ++ rest) = behind_one (mark (binary_mark op) at) (expr_tokens r) rest in
@@ -449,7 +467,7 @@ finds_binary n b cb (suc k) h c e =
 -- ---- conditional, assignment and expression
 
 conditional_tight : (n : ℕ) (b : Readers) → Complete n b → (t : Expr) (rest : List Token) → IsExpr t → looseness t ≤ 13
-    → expr_height t ≤ suc n → Stops 14 rest → read_conditional (suc n) b (expr_tokens t ++ rest) ≡ Some (t, rest)
+    → expr_height t ≤ suc n → Stops 14 rest → read_conditional (suc n) b (expr_tokens t ++ rest) ≡ Found t rest
 conditional_tight n b cb t rest is loose low stops =
     rw (
       finds_binary n b cb 10 (omega arith) 13 refl t rest is loose low (stops_tighter 14 13 rest stops (omega arith)),
@@ -464,12 +482,12 @@ finds_conditional n b cb (Conditional c q f k s) rest is loose low stops =
     append_assoc (expr_tokens c) more rest in
     let inner : (expr_tokens f ++ mark marks.Colon k ∷ expr_tokens s) ++ rest ≡ expr_tokens f ++ tail =
     append_assoc (expr_tokens f) (mark marks.Colon k ∷ expr_tokens s) rest in
-    let first : read_binary (suc n) b 10 (expr_tokens c ++ (more ++ rest)) ≡ Some (c, more ++ rest) =
+    let first : read_binary (suc n) b 10 (expr_tokens c ++ (more ++ rest)) ≡ Found c (more ++ rest) =
     finds_binary n b cb 10 (omega arith) 13 refl c (more ++ rest) is.0 is.1 (omega arith) (omega arith) in
     let lower : ltb (expr_height c) (suc n) ≡ true = lt-ltb (expr_height c) (suc n) (omega arith) in
-    let second : b.expression (expr_tokens f ++ tail) ≡ Some (f, tail) =
+    let second : b.expression (expr_tokens f ++ tail) ≡ Found f tail =
     cb.expression f tail is.2 (loosest f) (omega arith) (omega arith) in
-    let third : b.conditional (expr_tokens s ++ rest) ≡ Some (s, rest) =
+    let third : b.conditional (expr_tokens s ++ rest) ≡ Found s rest =
     cb.conditional s rest is.3 is.4 (omega arith) stops in
     rw (group, first, lower, inner, second, third) refl)
 finds_conditional n b cb (Assignment op l at r) rest is loose low stops = absurd (omega arith)
@@ -482,7 +500,7 @@ finds_conditional n b cb (Binary op l at r) rest is loose low stops =
 finds_conditional n b cb t rest is loose low stops = conditional_tight n b cb t rest is (omega arith) low stops
 
 assignment_tight : (n : ℕ) (b : Readers) → Complete n b → (t : Expr) (rest : List Token) → IsExpr t → looseness t ≤ 14
-    → expr_height t ≤ suc n → Stops 15 rest → read_assignment (suc n) b (expr_tokens t ++ rest) ≡ Some (t, rest)
+    → expr_height t ≤ suc n → Stops 15 rest → read_assignment (suc n) b (expr_tokens t ++ rest) ≡ Found t rest
 assignment_tight n b cb t rest is loose low stops =
     rw (
       finds_conditional n b cb t rest is loose low (stops_tighter 15 14 rest stops (omega arith)),
@@ -494,12 +512,12 @@ finds_assignment n b cb (Assignment op l at r) rest is loose low stops =
     (let more : List Token = mark (assign_mark op) at ∷ expr_tokens r in
     let group : (expr_tokens l ++ more) ++ rest ≡ expr_tokens l ++ (more ++ rest) =
     append_assoc (expr_tokens l) more rest in
-    let first : read_conditional (suc n) b (expr_tokens l ++ (more ++ rest)) ≡ Some (l, more ++ rest) =
+    let first : read_conditional (suc n) b (expr_tokens l ++ (more ++ rest)) ≡ Found l (more ++ rest) =
     finds_conditional n b cb l (more ++ rest) is.0 (omega (arith, is.1)) (omega arith)
     (omega (arith, assign_joins op)) in
     let tight : leb (looseness l) 2 ≡ true = le-leb (looseness l) 2 is.1 in
     let lower : ltb (expr_height l) (suc n) ≡ true = lt-ltb (expr_height l) (suc n) (omega arith) in
-    let second : b.assignment (expr_tokens r ++ rest) ≡ Some (r, rest) =
+    let second : b.assignment (expr_tokens r ++ rest) ≡ Found r rest =
     cb.assignment r rest is.2 is.3 (omega arith) stops in
     rw (group, first, takes_assign op at (expr_tokens r ++ rest), tight, lower, second) refl)
 finds_assignment n b cb (Binary op l at r) rest is loose low stops =
@@ -524,6 +542,7 @@ no_trees c reader t rest is loose low stops = absurd (omega (arith, height_above
 pub complete : (height : ℕ) → Complete height (readers height)
 complete zero =
     record {
+      height = ap (λ (r : Readers). r.height) readers-none;
       expression = no_trees 16 (readers 0).expression;
       assignment = no_trees 15 (readers 0).assignment;
       conditional = no_trees 14 (readers 0).conditional;
@@ -535,6 +554,7 @@ complete (suc n) =
     (let cb = complete n in
     let b : Readers = readers n in
     let all : Complete (suc n) (readers_over (suc n) b) = record {
+      height = refl;
       expression = finds_expression n b cb;
       assignment = finds_assignment n b cb;
       conditional = finds_conditional n b cb;

@@ -25,18 +25,18 @@ use Rattle.c_syntax.specs.DeclarationTokens.{parameter_height, part_height, init
 use Rattle.c_syntax.specs.DeclarationTokens.{item_height, declaration_height, IsMaybeConditional, IsMaybeArray}
 use Rattle.c_syntax.specs.DeclarationTokens.{IsParameter, IsPart, IsInitialiser, IsMaybeValue, IsItem, AreItems}
 use Rattle.c_syntax.specs.DeclarationTokens.{IsDeclaration}
-use Rattle.c_grammar.specs.Chains.{Done, Goes, Reads, chained}
+use Rattle.c_grammar.specs.Chains.{Goes, Reads, Found, chained}
 use Rattle.c_grammar.proofs.Chains.{Continues, continues_start, continues_goes, continues_done}
 use Rattle.c_grammar.specs.Taking.{take_mark, take_specifiers, take_pointer}
 use Rattle.c_grammar.specs.Reading.{Reader, Readers, Values}
 use Rattle.c_grammar.proofs.Stops.{Stops}
 use Rattle.c_grammar.specs.Heads.{mark_begins}
 use Rattle.c_grammar.proofs.Heads.{expression_no_mark}
-use Rattle.c_grammar.proofs.Complete.{Finds, Complete, list_of, exprs_of_list, takes_specifiers}
+use Rattle.c_grammar.proofs.Complete.{Finds, Complete, has_room, height_above, list_of, exprs_of_list, takes_specifiers}
 use Rattle.c_grammar.proofs.Complete.{takes_pointer, pointer_no_specifier, NoSpecifier, NoConst}
 use Rattle.c_grammar.specs.DeclarationReading.{Listed, list_step, read_more, take_name, maybe_before, array_behind}
 use Rattle.c_grammar.specs.DeclarationReading.{read_maybe_array, read_parameter, read_parameters, read_part}
-use Rattle.c_grammar.specs.DeclarationReading.{read_declarator, brace_step, take_comma, braces_behind, read_initialiser}
+use Rattle.c_grammar.specs.DeclarationReading.{read_declarator, Braced, brace_step, braces_behind, read_initialiser}
 use Rattle.c_grammar.specs.DeclarationReading.{value_from, read_item, declaration_behind, read_declaration}
 
 -- a mark is taken
@@ -46,8 +46,8 @@ takes_mark m at ts = rw (true_same the_marks m m refl) refl
 -- ---- several, with commas between them
 
 -- it is read, whatever follows of which E holds
-abbrev pub Found : {A : Type 0} → (A → List Token) → (List Token → Reads A) → (List Token → Type 0) → A → Type 0
-Found tokens read E x = (ts : List Token) → E ts → read (tokens x ++ ts) ≡ Some (x, ts)
+abbrev pub FoundBefore : {A : Type 0} → (A → List Token) → (List Token → Reads A) → (List Token → Type 0) → A → Type 0
+FoundBefore tokens read E x = (ts : List Token) → E ts → read (tokens x ++ ts) ≡ Found x ts
 
 more_ends : {A : Type 0} (tokens : A → List Token) (E : List Token → Type 0)
     → ((at : Span) (ts : List Token) → E (mark marks.Comma at ∷ ts))
@@ -59,7 +59,7 @@ more_ends tokens E comma (x ∷ xs) (at ∷ commas) rest end = comma at ((tokens
 pub list_continue : {A : Type 0} (tokens : A → List Token) (read : List Token → Reads A) (E : List Token → Type 0)
     → ((at : Span) (ts : List Token) → E (mark marks.Comma at ∷ ts)) →
     (xs : List A) (commas : List Span) (a : Listed A) (rest : List Token) (out : Reads (Listed A)) → length commas
-    ≡ length xs → E rest → AllByRecursion (Found tokens read E) xs →
+    ≡ length xs → E rest → AllByRecursion (FoundBefore tokens read E) xs →
     Continues (list_step read) a (followed tokens xs commas ++ rest) out
     → Continues (list_step read) (a.0 ++ xs, a.1 ++ commas) rest out
 list_continue tokens read E comma [] [] a rest out apart end found c =
@@ -72,7 +72,7 @@ list_continue tokens read E comma (x ∷ xs) (at ∷ commas) a rest out apart en
     (let more : List Token = followed tokens xs commas ++ rest in
     let group : (tokens x ++ followed tokens xs commas) ++ rest ≡ tokens x ++ more =
     append_assoc (tokens x) (followed tokens xs commas) rest in
-    let one : read (tokens x ++ more) ≡ Some (x, more) = found.0 more (more_ends tokens E comma xs commas rest end) in
+    let one : read (tokens x ++ more) ≡ Found x more = found.0 more (more_ends tokens E comma xs commas rest end) in
     let goes : list_step read a (followed tokens (x ∷ xs) (at ∷ commas) ++ rest)
     ≡ Goes (a.0 ++ x ∷ [], a.1 ++ at ∷ []) more = rw (group, one) refl in
     let less : length more < length (followed tokens (x ∷ xs) (at ∷ commas) ++ rest) =
@@ -88,8 +88,8 @@ list_continue tokens read E comma (x ∷ xs) (at ∷ commas) a rest out apart en
 pub list_read : {A : Type 0} (tokens : A → List Token) (read : List Token → Reads A) (E : List Token → Type 0)
     → ((at : Span) (ts : List Token) → E (mark marks.Comma at ∷ ts)) →
     (x : A) (xs : List A) (commas : List Span) (rest : List Token) → length commas ≡ length xs → E rest
-    → take_mark marks.Comma rest ≡ None → AllByRecursion (Found tokens read E) xs →
-    read_more read x (followed tokens xs commas ++ rest) ≡ Some ((x ∷ xs, commas), rest)
+    → take_mark marks.Comma rest ≡ None → AllByRecursion (FoundBefore tokens read E) xs →
+    read_more read x (followed tokens xs commas ++ rest) ≡ Found (x ∷ xs, commas) rest
 list_read tokens read E comma x xs commas rest apart end none found =
     (let all = list_continue tokens read E comma xs commas (x ∷ [], []) rest _ apart end found
     (continues_start (list_step read) (x ∷ [], []) (followed tokens xs commas ++ rest)) in
@@ -98,8 +98,8 @@ list_read tokens read E comma x xs commas rest apart end none found =
 -- the first element is read before the others
 pub first_found : {A : Type 0} (tokens : A → List Token) (read : List Token → Reads A) (E : List Token → Type 0)
     → ((at : Span) (ts : List Token) → E (mark marks.Comma at ∷ ts)) →
-    (x : A) (xs : List A) (commas : List Span) (rest : List Token) → E rest → Found tokens read E x →
-    read ((tokens x ++ followed tokens xs commas) ++ rest) ≡ Some (x, followed tokens xs commas ++ rest)
+    (x : A) (xs : List A) (commas : List Span) (rest : List Token) → E rest → FoundBefore tokens read E x →
+    read ((tokens x ++ followed tokens xs commas) ++ rest) ≡ Found x (followed tokens xs commas ++ rest)
 first_found tokens read E comma x xs commas rest end found =
     rw (append_assoc (tokens x) (followed tokens xs commas) rest)
     (found (followed tokens xs commas ++ rest) (more_ends tokens E comma xs commas rest end))
@@ -126,7 +126,7 @@ maybe_fits n (Some e) is low = (is.0, is.1, low)
 pub maybe_read : (m : Punct) (c n : ℕ) (read : Reader) → Finds c n read → mark_begins m ≡ false → c < 17
     → (e : Option Expr) (at : Span) (rest : List Token) →
     (is : MaybeFits c n e) → Stops c (mark m at ∷ rest) → maybe_before read m (maybe_expr_tokens e ++ mark m at ∷ rest)
-    ≡ Some (e, mark m at ∷ rest)
+    ≡ Found e (mark m at ∷ rest)
 maybe_read m c n read finds begins top None at rest is stops = rw (takes_mark m at rest) refl
 maybe_read m c n read finds begins top (Some e) at rest is stops =
     rw (expression_no_mark m e (mark m at ∷ rest) is.0 begins, finds e (mark m at ∷ rest) is.0 is.1 is.2 stops) refl
@@ -134,7 +134,7 @@ maybe_read m c n read finds begins top (Some e) at rest is stops =
 array_read : (n : ℕ) (b : Readers) → Complete n b → (a : ArrayTree) (rest : List Token) → IsMaybeConditional a.size
     → maybe_expr_height a.size ≤ n →
     array_behind b a.opening ((maybe_expr_tokens a.size ++ mark marks.RightBracket a.close ∷ []) ++ rest)
-    ≡ Some (a, rest)
+    ≡ Found a rest
 array_read n b cb a rest is low =
     (let group : (maybe_expr_tokens a.size ++ mark marks.RightBracket a.close ∷ []) ++ rest
     ≡ maybe_expr_tokens a.size ++ mark marks.RightBracket a.close ∷ rest =
@@ -147,7 +147,7 @@ array_read n b cb a rest is low =
 
 maybe_array_read : (n : ℕ) (b : Readers) → Complete n b → (a : Option ArrayTree) (rest : List Token) → IsMaybeArray a
     → maybe_array_height a ≤ n → take_mark marks.LeftBracket rest ≡ None →
-    read_maybe_array b (maybe_array_tokens a ++ rest) ≡ Some (a, rest)
+    read_maybe_array b (maybe_array_tokens a ++ rest) ≡ Found a rest
 maybe_array_read n b cb None rest is low none = rw none refl
 maybe_array_read n b cb (Some a) rest is low none = rw (array_read n b cb a rest is low) refl
 
@@ -164,16 +164,16 @@ parameter_reads : (b : Readers) (ts : List Token) (s : Specifier) (ss : List Spe
     (pointer : Option Star) (vs : List Token) (name : Option Identifier) (ws : List Token) (a : Option ArrayTree)
     (rest : List Token) →
     take_specifiers ts ≡ (s ∷ ss, us) → take_pointer us ≡ (pointer, vs) → take_name vs ≡ (name, ws)
-    → read_maybe_array b ws ≡ Some (a, rest) →
-    read_parameter b ts ≡ Some (record { specifiers = s ∷ ss; pointer = pointer; name = name; array = a }, rest)
+    → read_maybe_array b ws ≡ Found a rest →
+    read_parameter b ts ≡ Found (record { specifiers = s ∷ ss; pointer = pointer; name = name; array = a }) rest
 parameter_reads b ts s ss us pointer vs name ws a rest e f g h = rw (e, f, g, h) refl
 
 parameter_read : (n : ℕ) (b : Readers) → Complete n b → (p : ParameterTree) → IsParameter p → parameter_height p ≤ n
-    → Found parameter_tokens (read_parameter b) Clear p
+    → FoundBefore parameter_tokens (read_parameter b) Clear p
 parameter_read n b cb p is low rest clear = by_parts p.specifiers p.pointer p.name p.array is.0 is.1 low
   where
     by_array : (ss : List Specifier) (pointer : Option Star) (name : Option Identifier) (a : Option ArrayTree)
-        → IsMaybeArray a → maybe_array_height a ≤ n → read_maybe_array b (maybe_array_tokens a ++ rest) ≡ Some (a, rest)
+        → IsMaybeArray a → maybe_array_height a ≤ n → read_maybe_array b (maybe_array_tokens a ++ rest) ≡ Found a rest
     by_array ss pointer name a is low = maybe_array_read n b cb a rest is low clear.no_bracket
 
     array_specifier : (a : Option ArrayTree) → NoSpecifier (maybe_array_tokens a ++ rest)
@@ -216,7 +216,7 @@ parameter_read n b cb p is low rest clear = by_parts p.specifiers p.pointer p.na
     by_parts : (ss : List Specifier) (pointer : Option Star) (name : Option Identifier) (a : Option ArrayTree)
         → IsSpecifiers ss → IsMaybeArray a → maybe_array_height a ≤ n →
         read_parameter b (parameter_tokens (record { specifiers = ss; pointer = pointer; name = name; array = a })
-        ++ rest) ≡ Some (record { specifiers = ss; pointer = pointer; name = name; array = a }, rest)
+        ++ rest) ≡ Found (record { specifiers = ss; pointer = pointer; name = name; array = a }) rest
     by_parts [] pointer name a is is_array low = absurd is
     by_parts (s ∷ ss) pointer name a is is_array low =
         (let behind : List Token = maybe_name_tokens name ++ (maybe_array_tokens a ++ rest) in
@@ -262,7 +262,7 @@ clear_at ts (AtMark at us) = record {
 }
 
 parameter_found : (n : ℕ) (b : Readers) → Complete n b → (p : ParameterTree) → IsParameter p → parameter_height p ≤ n
-    → Found parameter_tokens (read_parameter b) (Ends marks.RightParen) p
+    → FoundBefore parameter_tokens (read_parameter b) (Ends marks.RightParen) p
 parameter_found n b cb p is low ts ends = parameter_read n b cb p is low ts (clear_at ts ends)
 
 -- specifiers are read, and no `)` stands at their front
@@ -272,7 +272,7 @@ parameter_no_close [] ts is = absurd is
 parameter_no_close (s ∷ ss) ts is = refl
 
 parameters_begin : (b : Readers) (ts : List Token) (p : ParameterTree) (us : List Token)
-    (out : Reads (Listed ParameterTree)) → take_mark marks.RightParen ts ≡ None → read_parameter b ts ≡ Some (p, us)
+    (out : Reads (Listed ParameterTree)) → take_mark marks.RightParen ts ≡ None → read_parameter b ts ≡ Found p us
     → read_more (read_parameter b) p us ≡ out → read_parameters b ts ≡ out
 parameters_begin b ts p us out none first others = rw (none, first) others
 
@@ -280,20 +280,20 @@ parameters_read : (n : ℕ) (b : Readers) → Complete n b
     → (ps : List ParameterTree) (commas : List Span) (c : Span) (rest : List Token) → AllByRecursion IsParameter ps
     → AreApart ps commas → greatest parameter_height ps ≤ n →
     read_parameters b (separated parameter_tokens ps commas ++ mark marks.RightParen c ∷ rest)
-    ≡ Some ((ps, commas), mark marks.RightParen c ∷ rest)
+    ≡ Found (ps, commas) (mark marks.RightParen c ∷ rest)
 parameters_read n b cb [] commas c rest are apart low = rw apart refl
 parameters_read n b cb (p ∷ ps) commas c rest are apart low =
     (let close : List Token = mark marks.RightParen c ∷ rest in
     let E : List Token → Type 0 = Ends marks.RightParen in
     let comma : (at : Span) (ts : List Token) → E (mark marks.Comma at ∷ ts) = λ at ts. AtComma at ts in
-    let found : Found parameter_tokens (read_parameter b) E p = parameter_found n b cb p are.0 (omega arith) in
+    let found : FoundBefore parameter_tokens (read_parameter b) E p = parameter_found n b cb p are.0 (omega arith) in
     let first : read_parameter b ((parameter_tokens p ++ followed parameter_tokens ps commas) ++ close)
-    ≡ Some (p, followed parameter_tokens ps commas ++ close) =
+    ≡ Found p (followed parameter_tokens ps commas ++ close) =
     first_found parameter_tokens (read_parameter b) E comma p ps commas close (AtMark c rest) found in
     let others : read_more (read_parameter b) p (followed parameter_tokens ps commas ++ close)
-    ≡ Some ((p ∷ ps, commas), close) =
+    ≡ Found (p ∷ ps, commas) close =
     list_read parameter_tokens (read_parameter b) E comma p ps commas close apart (AtMark c rest) refl
-    (all_found IsParameter (Found parameter_tokens (read_parameter b) E) parameter_height n (parameter_found n b cb)
+    (all_found IsParameter (FoundBefore parameter_tokens (read_parameter b) E) parameter_height n (parameter_found n b cb)
     ps are.1 (omega arith)) in
     let group : (parameter_tokens p ++ followed parameter_tokens ps commas) ++ close
     ≡ specifiers_tokens p.specifiers ++ (((pointer_tokens p.pointer
@@ -311,7 +311,7 @@ parameters_read n b cb (p ∷ ps) commas c rest are apart low =
 
 part_read : (n : ℕ) (b : Readers) → Complete n b → (part : PartTree) (rest : List Token) → IsPart part
     → part_height part ≤ n → take_mark marks.LeftBracket rest ≡ None → take_mark marks.LeftParen rest ≡ None →
-    read_part b (part_tokens part ++ rest) ≡ Some (part, rest)
+    read_part b (part_tokens part ++ rest) ≡ Found part rest
 part_read n b cb Plain rest is low no_bracket no_paren = rw (no_bracket, no_paren) refl
 part_read n b cb (Array a) rest is low no_bracket no_paren = rw (array_read n b cb a rest is low) refl
 part_read n b cb (Function p) rest is low no_bracket no_paren =
@@ -322,7 +322,7 @@ part_read n b cb (Function p) rest is low no_bracket no_paren =
 
 pub declarator_read : (n : ℕ) (b : Readers) → Complete n b → (d : DeclaratorTree) (rest : List Token) → IsPart d.part
     → part_height d.part ≤ n → take_mark marks.LeftBracket rest ≡ None → take_mark marks.LeftParen rest ≡ None →
-    read_declarator b (declarator_tokens d ++ rest) ≡ Some (d, rest)
+    read_declarator b (declarator_tokens d ++ rest) ≡ Found d rest
 declarator_read n b cb d rest is low no_bracket no_paren =
     (let behind : List Token = ident d.name.name d.name.at ∷ (part_tokens d.part ++ rest) in
     let group : declarator_tokens d ++ rest ≡ pointer_tokens d.pointer ++ behind =
@@ -337,16 +337,16 @@ after_values : (trailing : Option Span) (c : Span) (rest : List Token)
 after_values None c rest = omega arith
 after_values (Some at) c rest = omega arith
 
+-- what the values in braces come to: the comma behind the last of them is taken, where it is there
 values_done : (b : Readers) (a : Values) (trailing : Option Span) (c : Span) (rest : List Token)
-    → brace_step b a ((maybe_comma_tokens trailing ++ mark marks.RightBrace c ∷ []) ++ rest) ≡ Done
-values_done b a None c rest = refl
-values_done b a (Some at) c rest = refl
-
-comma_taken : (trailing : Option Span) (c : Span) (rest : List Token)
-    → take_comma ((maybe_comma_tokens trailing ++ mark marks.RightBrace c ∷ []) ++ rest)
-    ≡ (trailing, mark marks.RightBrace c ∷ rest)
-comma_taken None c rest = refl
-comma_taken (Some at) c rest = refl
+    (out : Reads Braced)
+    → Continues (brace_step b) (a, None) ((maybe_comma_tokens trailing ++ mark marks.RightBrace c ∷ []) ++ rest) out
+    → out ≡ Found (a, trailing) (mark marks.RightBrace c ∷ rest)
+values_done b a None c rest out before = continues_done _ _ _ _ before refl
+values_done b a (Some at) c rest out before =
+    continues_done (brace_step b) (a, Some at) (mark marks.RightBrace c ∷ rest) out
+    (continues_goes (brace_step b) (a, None) (a, Some at) (mark marks.Comma at ∷ mark marks.RightBrace c ∷ rest)
+    (mark marks.RightBrace c ∷ rest) out before refl (omega arith)) refl
 
 more_stops : (es : Exprs) (commas : List Span) (rest : List Token) → Stops 15 rest
     → Stops 15 (more_tokens es commas ++ rest)
@@ -355,24 +355,24 @@ more_stops (OneExpr e es) [] rest stops = stops
 more_stops (OneExpr e es) (at ∷ commas) rest stops = omega arith
 
 braces_continue : (n : ℕ) (b : Readers) → Complete n b
-    → (es : Exprs) (commas : List Span) (a : Values) (rest : List Token) (out : Reads Values) →
+    → (es : Exprs) (commas : List Span) (a : Values) (rest : List Token) (out : Reads Braced) →
     AreValues es → Follow es commas → exprs_height es ≤ n → Stops 15 rest
-    → Continues (brace_step b) a (more_tokens es commas ++ rest) out →
-    Continues (brace_step b) (a.0 ++ list_of es, a.1 ++ commas) rest out
+    → Continues (brace_step b) (a, None) (more_tokens es commas ++ rest) out →
+    Continues (brace_step b) ((a.0 ++ list_of es, a.1 ++ commas), None) rest out
 braces_continue n b cb NoExpr commas a rest out are follow low stops c =
     (let e : (a.0 ++ [], a.1 ++ commas) ≡ a = ap (λ cs. (a.0 ++ [], a.1 ++ cs)) follow
     ∙ (ap (λ xs. (xs, a.1 ++ [])) (append-nil a.0) ∙ ap (λ cs. (a.0, cs)) (append-nil a.1)) in
-    let P : Values → Type 0 = λ v. Continues (brace_step b) v rest out in
+    let P : Values → Type 0 = λ v. Continues (brace_step b) (v, None) rest out in
     subst P (sym e) c)
 braces_continue n b cb (OneExpr e es) [] a rest out are follow low stops c = absurd follow
 braces_continue n b cb (OneExpr e es) (at ∷ commas) a rest out are follow low stops c =
     (let more : List Token = more_tokens es commas ++ rest in
     let group : (expr_tokens e ++ more_tokens es commas) ++ rest ≡ expr_tokens e ++ more =
     append_assoc (expr_tokens e) (more_tokens es commas) rest in
-    let read : b.assignment (expr_tokens e ++ more) ≡ Some (e, more) =
+    let read : b.assignment (expr_tokens e ++ more) ≡ Found e more =
     cb.assignment e more are.0 are.1 (omega arith) (more_stops es commas rest stops) in
-    let goes : brace_step b a (more_tokens (OneExpr e es) (at ∷ commas) ++ rest)
-    ≡ Goes (a.0 ++ e ∷ [], a.1 ++ at ∷ []) more =
+    let goes : brace_step b (a, None) (more_tokens (OneExpr e es) (at ∷ commas) ++ rest)
+    ≡ Goes ((a.0 ++ e ∷ [], a.1 ++ at ∷ []), None) more =
     rw (group, expression_no_mark marks.RightBrace e more are.0 refl, read) refl in
     let less : length more < length (more_tokens (OneExpr e es) (at ∷ commas) ++ rest) =
     rw group (omega (arith, length-append (expr_tokens e) more)) in
@@ -382,18 +382,18 @@ braces_continue n b cb (OneExpr e es) (at ∷ commas) a rest out are follow low 
     let same : ((a.0 ++ e ∷ []) ++ list_of es, (a.1 ++ at ∷ []) ++ commas)
     ≡ (a.0 ++ e ∷ list_of es, a.1 ++ at ∷ commas) =
     rw (append_assoc a.0 (e ∷ []) (list_of es), append_assoc a.1 (at ∷ []) commas) refl in
-    let P : Values → Type 0 = λ v. Continues (brace_step b) v rest out in
+    let P : Values → Type 0 = λ v. Continues (brace_step b) (v, None) rest out in
     subst P same all)
 
 initialiser_reads : (b : Readers) (o : Span) (ts : List Token) (e : Expr) (us : List Token) (es : List Expr)
-    (commas : List Span) (vs : List Token) (trailing : Option Span) (ws : List Token) (c : Span) (rest : List Token) →
-    b.assignment ts ≡ Some (e, us) → chained (brace_step b) (e ∷ [], []) us ≡ Some ((es, commas), vs) → take_comma vs
-    ≡ (trailing, ws) → take_mark marks.RightBrace ws ≡ Some (c, rest) →
-    braces_behind b o ts ≡ Some (Braces o (exprs_of es) commas trailing c, rest)
-initialiser_reads b o ts e us es commas vs trailing ws c rest f g h k = rw (f, g, h, k) refl
+    (commas : List Span) (trailing : Option Span) (ws : List Token) (c : Span) (rest : List Token) →
+    b.assignment ts ≡ Found e us → chained (brace_step b) ((e ∷ [], []), None) us ≡ Found ((es, commas), trailing) ws
+    → take_mark marks.RightBrace ws ≡ Some (c, rest) →
+    braces_behind b o ts ≡ Found (Braces o (exprs_of es) commas trailing c) rest
+initialiser_reads b o ts e us es commas trailing ws c rest f g k = rw (f, g, k) refl
 
 initialiser_read : (n : ℕ) (b : Readers) → Complete n b → (i : InitialiserTree) (rest : List Token) → IsInitialiser i
-    → initialiser_height i ≤ n → Stops 15 rest → read_initialiser b (initialiser_tokens i ++ rest) ≡ Some (i, rest)
+    → initialiser_height i ≤ n → Stops 15 rest → read_initialiser b (initialiser_tokens i ++ rest) ≡ Found i rest
 initialiser_read n b cb (Single e) rest is low stops =
     rw (expression_no_mark marks.LeftBrace e rest is.0 refl, cb.assignment e rest is.0 is.1 low stops) refl
 initialiser_read n b cb (Braces o NoExpr commas trailing c) rest is low stops = absurd is
@@ -404,24 +404,32 @@ initialiser_read n b cb (Braces o (OneExpr e es) commas trailing c) rest is low 
     ++ (maybe_comma_tokens trailing ++ mark marks.RightBrace c ∷ [])) ++ rest ≡ expr_tokens e ++ more =
     append_assoc (expr_tokens e ++ more_tokens es commas) (maybe_comma_tokens trailing ++ mark marks.RightBrace c ∷ [])
     rest ∙ append_assoc (expr_tokens e) (more_tokens es commas) tail in
-    let read : b.assignment (expr_tokens e ++ more) ≡ Some (e, more) =
+    let read : b.assignment (expr_tokens e ++ more) ≡ Found e more =
     cb.assignment e more is.0.0 is.0.1 (omega arith) (more_stops es commas tail (after_values trailing c rest)) in
     let all = braces_continue n b cb es commas (e ∷ [], []) tail _ is.0.2 is.1 (omega arith)
-    (after_values trailing c rest) (continues_start (brace_step b) (e ∷ [], []) more) in
-    let end : chained (brace_step b) (e ∷ [], []) more ≡ Some ((e ∷ list_of es, commas), tail) =
-    continues_done _ _ _ _ all (values_done b (e ∷ list_of es, commas) trailing c rest) in
+    (after_values trailing c rest) (continues_start (brace_step b) ((e ∷ [], []), None) more) in
+    let end : chained (brace_step b) ((e ∷ [], []), None) more
+    ≡ Found ((e ∷ list_of es, commas), trailing) (mark marks.RightBrace c ∷ rest) =
+    values_done b (e ∷ list_of es, commas) trailing c rest _ all in
     initialiser_reads b o (((expr_tokens e ++ more_tokens es commas)
-    ++ (maybe_comma_tokens trailing ++ mark marks.RightBrace c ∷ [])) ++ rest) e more (e ∷ list_of es) commas tail
-    trailing (mark marks.RightBrace c ∷ rest) c rest (rw (group, read) refl) end (comma_taken trailing c rest) refl
+    ++ (maybe_comma_tokens trailing ++ mark marks.RightBrace c ∷ [])) ++ rest) e more (e ∷ list_of es) commas
+    trailing (mark marks.RightBrace c ∷ rest) c rest (rw (group, read) refl) end refl
     ∙ rw (exprs_of_list es) refl)
 
 -- ---- items and declarations
 
+-- an initialiser has a node in it
+initialiser_above : (i : InitialiserTree) → IsInitialiser i → 1 ≤ initialiser_height i
+initialiser_above (Single e) is = height_above e
+initialiser_above (Braces o NoExpr commas trailing c) is = absurd is
+initialiser_above (Braces o (OneExpr e es) commas trailing c) is = omega (arith, height_above e)
+
 value_read : (n : ℕ) (b : Readers) → Complete n b → (v : Option ValueTree) (rest : List Token) → IsMaybeValue v
     → value_height v ≤ n → Stops 15 rest → take_mark marks.Equal rest ≡ None →
-    value_from b (take_mark marks.Equal (value_tokens v ++ rest)) (value_tokens v ++ rest) ≡ Some (v, rest)
+    value_from b (take_mark marks.Equal (value_tokens v ++ rest)) (value_tokens v ++ rest) ≡ Found v rest
 value_read n b cb None rest is low stops none = rw none refl
-value_read n b cb (Some v) rest is low stops none = rw (initialiser_read n b cb v.value rest is low stops) refl
+value_read n b cb (Some v) rest is low stops none =
+    rw (has_room n b cb (omega (arith, initialiser_above v.value is, low)), initialiser_read n b cb v.value rest is low stops) refl
 
 value_no_bracket : (v : Option ValueTree) (rest : List Token) → take_mark marks.LeftBracket rest ≡ None
     → take_mark marks.LeftBracket (value_tokens v ++ rest) ≡ None
@@ -434,12 +442,12 @@ value_no_paren None rest none = none
 value_no_paren (Some v) rest none = refl
 
 item_reads : (b : Readers) (ts : List Token) (d : DeclaratorTree) (us : List Token) (v : Option ValueTree)
-    (rest : List Token) → read_declarator b ts ≡ Some (d, us) → value_from b (take_mark marks.Equal us) us
-    ≡ Some (v, rest) → read_item b ts ≡ Some (record { declarator = d; initialiser = v }, rest)
+    (rest : List Token) → read_declarator b ts ≡ Found d us → value_from b (take_mark marks.Equal us) us
+    ≡ Found v rest → read_item b ts ≡ Found (record { declarator = d; initialiser = v }) rest
 item_reads b ts d us v rest e f = rw (e, f) refl
 
 item_found : (n : ℕ) (b : Readers) → Complete n b → (i : ItemTree) → IsItem i → item_height i ≤ n
-    → Found item_tokens (read_item b) (Ends marks.Semicolon) i
+    → FoundBefore item_tokens (read_item b) (Ends marks.Semicolon) i
 item_found n b cb i is low ts (AtComma at us) =
     (let rest : List Token = mark marks.Comma at ∷ us in
     let group : item_tokens i ++ rest ≡ declarator_tokens i.declarator ++ (value_tokens i.initialiser ++ rest) =
@@ -469,21 +477,17 @@ declarator_no_specifier d ts =
 pub declaration_reads : (b : Readers) (ts : List Token) (s : Specifier) (ss : List Specifier) (us : List Token)
     (d : DeclaratorTree) (vs : List Token) (v : Option ValueTree) (ws : List Token) (items : Listed ItemTree)
     (xs : List Token) (semicolon : Span) (rest : List Token) →
-    take_specifiers ts ≡ (s ∷ ss, us) → read_declarator b us ≡ Some (d, vs) → value_from b (take_mark marks.Equal vs) vs
-    ≡ Some (v, ws) → read_more (read_item b) (record { declarator = d; initialiser = v }) ws ≡ Some (items, xs)
+    take_specifiers ts ≡ (s ∷ ss, us) → read_declarator b us ≡ Found d vs → value_from b (take_mark marks.Equal vs) vs
+    ≡ Found v ws → read_more (read_item b) (record { declarator = d; initialiser = v }) ws ≡ Found items xs
     → take_mark marks.Semicolon xs ≡ Some (semicolon, rest) →
-    (read_declaration b ts ≡ Some (
-      record {
-        specifiers = s ∷ ss;
-        items = items.0;
-        commas = items.1;
-        semicolon =
-            semicolon;
-      },
-      rest,
-    ))
-    × (declaration_behind b (s ∷ ss) d vs ≡ Some
-    (record { specifiers = s ∷ ss; items = items.0; commas = items.1; semicolon = semicolon }, rest))
+    (read_declaration b ts ≡ Found (record {
+      specifiers = s ∷ ss;
+      items = items.0;
+      commas = items.1;
+      semicolon =
+          semicolon;
+    }) rest)
+    × (declaration_behind b (s ∷ ss) d vs ≡ Found (record { specifiers = s ∷ ss; items = items.0; commas = items.1; semicolon = semicolon }) rest)
 declaration_reads b ts s ss us d vs v ws items xs semicolon rest e f g h k =
     (rw (e, f, g, h, k) refl, rw (g, h, k) refl)
 
@@ -493,9 +497,9 @@ pub record DeclarationRead (b : Readers) (d : DeclarationTree) (rest : List Toke
   pub behind_specifiers : List Token
   pub behind_first : List Token
   pub words_read : take_specifiers (declaration_tokens d ++ rest) ≡ (d.specifiers, behind_specifiers)
-  pub declarator_is : read_declarator b behind_specifiers ≡ Some (first, behind_first)
-  pub behind_is : declaration_behind b d.specifiers first behind_first ≡ Some (d, rest)
-  pub all_read : read_declaration b (declaration_tokens d ++ rest) ≡ Some (d, rest)
+  pub declarator_is : read_declarator b behind_specifiers ≡ Found first behind_first
+  pub behind_is : declaration_behind b d.specifiers first behind_first ≡ Found d rest
+  pub all_read : read_declaration b (declaration_tokens d ++ rest) ≡ Found d rest
   pub no_body : take_mark marks.LeftBrace behind_first ≡ None
 
 pub declaration_read : (n : ℕ) (b : Readers) → Complete n b → (d : DeclarationTree) (rest : List Token)
@@ -561,17 +565,17 @@ declaration_read n b cb d rest is low = by_parts d.specifiers d.items d.commas d
         let ends : Ends marks.Semicolon more = item_ends is commas semicolon rest in
         let words_read : take_specifiers (declaration_tokens d0 ++ rest) ≡ (s ∷ ss, behind) = ap take_specifiers group
         ∙ takes_specifiers (s ∷ ss) behind (declarator_no_specifier i.declarator behind_first) in
-        let declarator_is : read_declarator b behind ≡ Some (i.declarator, behind_first) =
+        let declarator_is : read_declarator b behind ≡ Found i.declarator behind_first =
         declarator_read n b cb i.declarator behind_first are.0.0 (omega arith)
         (value_no_bracket i.initialiser more (ends_bracket more ends))
         (value_no_paren i.initialiser more (ends_paren more ends)) in
-        let value_is : value_from b (take_mark marks.Equal behind_first) behind_first ≡ Some (i.initialiser, more) =
+        let value_is : value_from b (take_mark marks.Equal behind_first) behind_first ≡ Found i.initialiser more =
         value_read n b cb i.initialiser more are.0.1 (omega arith) (ends_stop more ends) (ends_equal more ends) in
         let E : List Token → Type 0 = Ends marks.Semicolon in
         let comma : (at : Span) (ts : List Token) → E (mark marks.Comma at ∷ ts) = λ at ts. AtComma at ts in
-        let others : read_more (read_item b) i more ≡ Some ((i ∷ is, commas), close) =
+        let others : read_more (read_item b) i more ≡ Found (i ∷ is, commas) close =
         list_read item_tokens (read_item b) E comma i is commas close apart (AtMark semicolon rest) refl
-        (all_found IsItem (Found item_tokens (read_item b) E) item_height n (item_found n b cb) is are.1
+        (all_found IsItem (FoundBefore item_tokens (read_item b) E) item_height n (item_found n b cb) is are.1
         (omega arith)) in
         let all = declaration_reads b (declaration_tokens d0 ++ rest) s ss behind i.declarator behind_first
         i.initialiser more (i ∷ is, commas) close semicolon rest words_read declarator_is value_is others refl in

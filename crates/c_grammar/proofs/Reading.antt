@@ -1,11 +1,12 @@
 -- Reading an expression from the front of a list of tokens, where its height may be at most so much.
-use Rattle.std.proofs.Common.{◌≡◌, ℕ, zero, suc, ◌-◌, ◌<◌, List, ◌∷◌, Some, refl, arith}
+use Rattle.std.proofs.Common.{◌≡◌, ℕ, zero, suc, ◌-◌, ◌<◌, List, ◌∷◌, Some, refl, ap, ◌∙◌, arith}
 use Rattle.pcc_base.specs.declared.span.Span.{Span}
 use Rattle.c_lex.specs.declared.token.Token.{Token}
 use Rattle.c_lex.specs.declared.token.Punct.TheVariants as marks
 use Rattle.c_syntax.specs.declared.expression.Specifier.{Specifier}
-use Rattle.c_grammar.specs.Taking.{take_mark, take_specifiers, take_pointer}
-use Rattle.c_grammar.specs.Reading.{Readers, cast_behind, no_readers, read_assignment, read_binary, read_cast}
+use Rattle.c_grammar.specs.Taking.{take_mark, take_specifiers}
+use Rattle.c_grammar.specs.Chains.{Takes}
+use Rattle.c_grammar.specs.Reading.{Readers, cast_from, cast_inside, cast_with, no_readers, read_assignment, read_binary, read_cast}
 use Rattle.c_grammar.specs.Reading.{read_conditional, read_expression, read_infix, read_unary, readers, readers_over}
 
 pub readers-none : readers 0 ≡ no_readers
@@ -64,5 +65,7 @@ unary_above height ts h = rw (readers_above height h) refl
 -- a cast, behind its `(` and with its specifiers
 pub cast_reads : (height : ℕ) (below : Readers) (ts us vs : List Token) (o : Span) (s : Specifier) (ss : List Specifier)
     → take_mark marks.LeftParen ts ≡ Some (o, us) → take_specifiers us ≡ (s ∷ ss, vs) → read_cast height below ts
-    ≡ cast_behind below o (s ∷ ss) (take_pointer vs)
-cast_reads height below ts us vs o s ss e f = rw (e, f) refl
+    ≡ cast_inside below o us
+cast_reads height below ts us vs o s ss e f =
+    ap (λ (t : Takes Span). cast_from height below t ts) e
+    ∙ ap (λ (r : List Specifier × List Token). cast_with height below o r.0 us ts) f

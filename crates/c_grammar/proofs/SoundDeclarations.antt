@@ -26,10 +26,12 @@ use Rattle.c_syntax.specs.DeclarationTokens.{maybe_expr_height, maybe_array_heig
 use Rattle.c_syntax.specs.DeclarationTokens.{initialiser_height, value_height, item_height, declaration_height}
 use Rattle.c_syntax.specs.DeclarationTokens.{IsMaybeConditional, IsMaybeArray, IsParameter, IsPart, IsInitialiser}
 use Rattle.c_syntax.specs.DeclarationTokens.{IsMaybeValue, IsItem, AreItems, IsDeclaration}
-use Rattle.c_grammar.specs.Chains.{Reads, chained}
+use Rattle.c_grammar.specs.Chains.{Takes, Reads, Found, Faults}
 use Rattle.c_grammar.specs.Taking.{take_mark, take_specifiers, take_pointer}
+use Rattle.c_grammar.specs.Taking.{read_mark}
 use Rattle.c_grammar.specs.Reading.{Reader, Readers, Values}
-use Rattle.c_grammar.proofs.Sound.{Holds, HoldsStep, holds_then, step_then, holds_chain, mark_taken, specifiers_taken}
+use Rattle.c_grammar.proofs.Sound.{Holds, HoldsTaken, HoldsStep, holds_then, holds_above, step_then, holds_chain, mark_taken, mark_read}
+use Rattle.c_grammar.proofs.Sound.{specifiers_taken}
 use Rattle.c_grammar.proofs.Sound.{pointer_taken, Sound, SoundReader, SoundReaders, SoundValues, values_push}
 use Rattle.c_grammar.proofs.Sound.{first_value}
 use Rattle.c_grammar.specs.DeclarationReading.{Listed, list_at, list_step, read_more, name_from, take_name, maybe_from}
@@ -37,7 +39,7 @@ use Rattle.c_grammar.specs.DeclarationReading.{maybe_before, array_behind, maybe
 use Rattle.c_grammar.specs.DeclarationReading.{parameter_with, read_parameter, parameters_from, read_parameters}
 use Rattle.c_grammar.specs.DeclarationReading.{parameters_behind, part_in_parens, part_from, read_part}
 use Rattle.c_grammar.specs.DeclarationReading.{declarator_named, read_declarator, brace_close, brace_at, brace_step}
-use Rattle.c_grammar.specs.DeclarationReading.{comma_from, take_comma, initialiser_from, read_initialiser, value_from}
+use Rattle.c_grammar.specs.DeclarationReading.{Braced, brace_behind, read_values, initialiser_from, read_initialiser, value_from}
 use Rattle.c_grammar.specs.DeclarationReading.{item_behind, read_item, declaration_behind, declaration_with}
 use Rattle.c_grammar.specs.DeclarationReading.{read_declaration}
 
@@ -61,7 +63,7 @@ followed_push tokens (y ∷ ys) (c ∷ cs) x at e =
     ∙ ap (λ ts. mark marks.Comma c ∷ ts) (sym
     (append_assoc (tokens y) (followed tokens ys cs) (mark marks.Comma at ∷ tokens x)))
 
-list_push : {A : Type 0} (tokens : A → List Token) (P : A → Type 0) (ts : List Token) (xs : List A) (commas : List Span)
+pub list_push : {A : Type 0} (tokens : A → List Token) (P : A → Type 0) (ts : List Token) (xs : List A) (commas : List Span)
     (us vs ws : List Token) (at : Span) (x : A) →
     SoundList tokens P ts (xs, commas) us → us ≡ mark marks.Comma at ∷ vs → vs ≡ tokens x ++ ws → P x
     → SoundList tokens P ts (xs ++ x ∷ [], commas ++ at ∷ []) ws
@@ -82,28 +84,32 @@ list_push tokens P ts (y ∷ ys) commas us vs ws at x s f g p =
 abbrev pub One : {A : Type 0} → (A → List Token) → (A → Type 0) → List Token → A → List Token → Type 0
 One tokens P ts x us = (ts ≡ tokens x ++ us) × P x
 
-sound_more : {A : Type 0} (tokens : A → List Token) (P : A → Type 0) (read : List Token → Reads A)
+pub list_keeps : {A : Type 0} (tokens : A → List Token) (P : A → Type 0) (read : List Token → Reads A)
+    → ((ts : List Token) → Holds (One tokens P ts) (read ts)) → (ts : List Token) (l : Listed A) (vs : List Token)
+    → SoundList tokens P ts l vs → (o : Takes Span) → HoldsTaken (λ at ws. vs ≡ mark marks.Comma at ∷ ws) o
+    → HoldsStep (SoundList tokens P ts) (list_at read l o)
+list_keeps tokens P read sound ts l vs s None h = tt
+list_keeps tokens P read sound ts l vs s (Some (at, ws)) h =
+    step_then (One tokens P ws) (SoundList tokens P ts) (read ws) _ (sound ws)
+    (λ y xs g. list_push tokens P ts l.0 l.1 vs ws xs at y s h g.0 g.1)
+
+pub sound_more : {A : Type 0} (tokens : A → List Token) (P : A → Type 0) (read : List Token → Reads A)
     → ((ts : List Token) → Holds (One tokens P ts) (read ts)) → (ts : List Token) (x : A) (us : List Token)
     → One tokens P ts x us → Holds (SoundList tokens P ts) (read_more read x us)
-sound_more {A} tokens P read sound ts x us one =
+sound_more tokens P read sound ts x us one =
     holds_chain (SoundList tokens P ts) (list_step read)
-    (λ l vs s. turn l vs s (take_mark marks.Comma vs) (mark_taken marks.Comma vs)) (length us) (x ∷ [], []) us
+    (λ l vs s. list_keeps tokens P read sound ts l vs s (take_mark marks.Comma vs) (mark_taken marks.Comma vs))
+    (length us) (x ∷ [], []) us
     (record {
       tokens_are = one.0 ∙ ap (λ zs. zs ++ us) (sym (append-nil (tokens x)));
       all = (one.1, tt);
       apart = refl;
       some = omega arith;
     })
-  where
-    turn : (l : Listed A) (vs : List Token) → SoundList tokens P ts l vs → (o : Reads Span)
-        → Holds (λ at ws. vs ≡ mark marks.Comma at ∷ ws) o → HoldsStep (SoundList tokens P ts) (list_at read l o)
-    turn l vs s None h = tt
-    turn l vs s (Some (at, ws)) h = step_then (One tokens P ws) (SoundList tokens P ts) (read ws) _ (sound ws)
-        (λ y xs g. list_push tokens P ts l.0 l.1 vs ws xs at y s h g.0 g.1)
 
 -- ---- declarators
 
-name_taken : (ts : List Token) → ts ≡ maybe_name_tokens (take_name ts).0 ++ (take_name ts).1
+pub name_taken : (ts : List Token) → ts ≡ maybe_name_tokens (take_name ts).0 ++ (take_name ts).1
 name_taken [] = refl
 name_taken (t ∷ ts) = by_kind t.kind t.at
   where
@@ -129,41 +135,41 @@ pub sound_maybe : (c h : ℕ) (read : Reader) → SoundReader c h read → (m : 
     → Holds (SoundMaybe c h ts) (maybe_before read m ts)
 sound_maybe c h read sound m ts = under (take_mark m ts)
   where
-    under : (o : Reads Span) → Holds (SoundMaybe c h ts) (maybe_from read o ts)
+    under : (o : Takes Span) → Holds (SoundMaybe c h ts) (maybe_from read o ts)
     under (Some close) = record { tokens = refl; fits = tt; low = omega arith }
     under None = holds_then (Sound c h ts) (SoundMaybe c h ts) (read ts) _ (sound ts)
         (λ e us s. record { tokens = s.tokens; fits = (s.is, s.loose); low = s.low })
 
-conditional_is : (e : Option Expr) → MaybeIs 14 e → IsMaybeConditional e
+pub conditional_is : (e : Option Expr) → MaybeIs 14 e → IsMaybeConditional e
 conditional_is None is = tt
 conditional_is (Some e) is = is
 
-abbrev IsLowArray : ℕ → ArrayTree → Type 0
+abbrev pub IsLowArray : ℕ → ArrayTree → Type 0
 IsLowArray h a = IsMaybeConditional a.size × (maybe_expr_height a.size ≤ h)
 
-sound_array : (n : ℕ) (b : Readers) → SoundReaders n b → (o : Span) (ts : List Token)
+pub sound_array : (n : ℕ) (b : Readers) → SoundReaders n b → (o : Span) (ts : List Token)
     → Holds (One array_tokens (IsLowArray n) (mark marks.LeftBracket o ∷ ts)) (array_behind b o ts)
 sound_array n b sb o ts =
     holds_then (SoundMaybe 14 n ts) (One array_tokens (IsLowArray n) (mark marks.LeftBracket o ∷ ts))
     (maybe_before b.conditional marks.RightBracket ts) _
     (sound_maybe 14 n b.conditional sb.conditional marks.RightBracket ts) (λ size us s.
     holds_then (λ c vs. us ≡ mark marks.RightBracket c ∷ vs)
-    (One array_tokens (IsLowArray n) (mark marks.LeftBracket o ∷ ts)) (take_mark marks.RightBracket us) _
-    (mark_taken marks.RightBracket us) (λ c vs g. (
+    (One array_tokens (IsLowArray n) (mark marks.LeftBracket o ∷ ts)) (read_mark marks.RightBracket us) _
+    (mark_read marks.RightBracket us) (λ c vs g. (
       ap (λ zs. mark marks.LeftBracket o ∷ zs)
           (s.tokens ∙ (ap (λ zs. maybe_expr_tokens size ++ zs) g
           ∙ sym (append_assoc (maybe_expr_tokens size) (mark marks.RightBracket c ∷ []) vs))),
       (conditional_is size s.fits, s.low),
     )))
 
-abbrev IsLowMaybeArray : ℕ → Option ArrayTree → Type 0
+abbrev pub IsLowMaybeArray : ℕ → Option ArrayTree → Type 0
 IsLowMaybeArray h a = IsMaybeArray a × (maybe_array_height a ≤ h)
 
-sound_maybe_array : (n : ℕ) (b : Readers) → SoundReaders n b → (ts : List Token)
+pub sound_maybe_array : (n : ℕ) (b : Readers) → SoundReaders n b → (ts : List Token)
     → Holds (One maybe_array_tokens (IsLowMaybeArray n) ts) (read_maybe_array b ts)
 sound_maybe_array n b sb ts = under (take_mark marks.LeftBracket ts) (mark_taken marks.LeftBracket ts)
   where
-    under : (o : Reads Span) → Holds (λ at us. ts ≡ mark marks.LeftBracket at ∷ us) o
+    under : (o : Takes Span) → HoldsTaken (λ at us. ts ≡ mark marks.LeftBracket at ∷ us) o
         → Holds (One maybe_array_tokens (IsLowMaybeArray n) ts) (maybe_array_from b o ts)
     under None h = (refl, (tt, omega arith))
     under (Some (o, us)) h =
@@ -171,10 +177,10 @@ sound_maybe_array n b sb ts = under (take_mark marks.LeftBracket ts) (mark_taken
         (One maybe_array_tokens (IsLowMaybeArray n) ts) (array_behind b o us) _ (sound_array n b sb o us)
         (λ a vs g. (h ∙ g.0, g.1))
 
-abbrev IsLowParameter : ℕ → ParameterTree → Type 0
+abbrev pub IsLowParameter : ℕ → ParameterTree → Type 0
 IsLowParameter h p = IsParameter p × (parameter_height p ≤ h)
 
-sound_parameter : (n : ℕ) (b : Readers) → SoundReaders n b → (ts : List Token)
+pub sound_parameter : (n : ℕ) (b : Readers) → SoundReaders n b → (ts : List Token)
     → Holds (One parameter_tokens (IsLowParameter n) ts) (read_parameter b ts)
 sound_parameter n b sb ts = under (take_specifiers ts).0 (take_specifiers ts).1 (specifiers_taken ts)
   where
@@ -197,32 +203,32 @@ sound_parameter n b sb ts = under (take_specifiers ts).0 (take_specifiers ts).1 
         )))
 
 -- elements that are so high at most
-all_low : {A : Type 0} (P : A → Type 0) (height : A → ℕ) (h : ℕ) (xs : List A)
+pub all_low : {A : Type 0} (P : A → Type 0) (height : A → ℕ) (h : ℕ) (xs : List A)
     → AllByRecursion (λ x. P x × (height x ≤ h)) xs → AllByRecursion P xs × (greatest height xs ≤ h)
 all_low P height h [] all = (tt, omega arith)
 all_low P height h (x ∷ xs) all = (let r = all_low P height h xs all.1 in ((all.0.0, r.0), omega (arith, all.0.1, r.1)))
 
-abbrev IsLowPart : ℕ → PartTree → Type 0
+abbrev pub IsLowPart : ℕ → PartTree → Type 0
 IsLowPart h part = IsPart part × (part_height part ≤ h)
 
 -- the parameters of a function
-record SoundParameters (h : ℕ) (ts : List Token) (l : Listed ParameterTree) (us : List Token) : Type 0 where
-  tokens_are : ts ≡ separated parameter_tokens l.0 l.1 ++ us
-  all : AllByRecursion IsParameter l.0
-  low : greatest parameter_height l.0 ≤ h
-  apart : AreApart l.0 l.1
+pub record SoundParameters (h : ℕ) (ts : List Token) (l : Listed ParameterTree) (us : List Token) : Type 0 where
+  pub tokens_are : ts ≡ separated parameter_tokens l.0 l.1 ++ us
+  pub all : AllByRecursion IsParameter l.0
+  pub low : greatest parameter_height l.0 ≤ h
+  pub apart : AreApart l.0 l.1
 
 some_parameters : (h : ℕ) (ts : List Token) (r : Reads (Listed ParameterTree))
     → Holds (SoundList parameter_tokens (IsLowParameter h) ts) r → Holds (SoundParameters h ts) r
-some_parameters h ts None s = tt
-some_parameters h ts (Some (l, us)) s = (let r = all_low IsParameter parameter_height h l.0 s.all in
+some_parameters h ts (Faults deep us) s = tt
+some_parameters h ts (Found l us) s = (let r = all_low IsParameter parameter_height h l.0 s.all in
     record { tokens_are = s.tokens_are; all = r.0; low = r.1; apart = s.apart })
 
-sound_parameters : (n : ℕ) (b : Readers) → SoundReaders n b → (ts : List Token)
+pub sound_parameters : (n : ℕ) (b : Readers) → SoundReaders n b → (ts : List Token)
     → Holds (SoundParameters n ts) (read_parameters b ts)
 sound_parameters n b sb ts = under (take_mark marks.RightParen ts)
   where
-    under : (o : Reads Span) → Holds (SoundParameters n ts) (parameters_from b o ts)
+    under : (o : Takes Span) → Holds (SoundParameters n ts) (parameters_from b o ts)
     under (Some close) = record { tokens_are = refl; all = tt; low = omega arith; apart = refl }
     under None =
         holds_then (One parameter_tokens (IsLowParameter n) ts) (SoundParameters n ts) (read_parameter b ts) _
@@ -230,11 +236,11 @@ sound_parameters n b sb ts = under (take_mark marks.RightParen ts)
         some_parameters n ts (read_more (read_parameter b) p us)
         (sound_more parameter_tokens (IsLowParameter n) (read_parameter b) (sound_parameter n b sb) ts p us g))
 
-sound_part : (n : ℕ) (b : Readers) → SoundReaders n b → (ts : List Token)
+pub sound_part : (n : ℕ) (b : Readers) → SoundReaders n b → (ts : List Token)
     → Holds (One part_tokens (IsLowPart n) ts) (read_part b ts)
 sound_part n b sb ts = brackets (take_mark marks.LeftBracket ts) (mark_taken marks.LeftBracket ts)
   where
-    parens : (o : Reads Span) → Holds (λ at us. ts ≡ mark marks.LeftParen at ∷ us) o
+    parens : (o : Takes Span) → HoldsTaken (λ at us. ts ≡ mark marks.LeftParen at ∷ us) o
         → Holds (One part_tokens (IsLowPart n) ts) (part_in_parens b o ts)
     parens None h = (refl, (tt, omega arith))
     parens (Some (o, us)) h =
@@ -244,7 +250,7 @@ sound_part n b sb ts = brackets (take_mark marks.LeftBracket ts) (mark_taken mar
         (mark marks.LeftParen o ∷ us)) (read_parameters b us) _ (sound_parameters n b sb us) (λ ps vs s.
         holds_then (λ c ws. vs ≡ mark marks.RightParen c ∷ ws)
         (One parameters_tokens (λ p. IsLowPart n (Function p)) (mark marks.LeftParen o ∷ us))
-        (take_mark marks.RightParen vs) _ (mark_taken marks.RightParen vs) (λ c ws g. (
+        (read_mark marks.RightParen vs) _ (mark_read marks.RightParen vs) (λ c ws g. (
           ap (λ zs. mark marks.LeftParen o ∷ zs) (s.tokens_are
               ∙ (ap (λ zs. separated parameter_tokens ps.0 ps.1 ++ zs) g
               ∙ sym (append_assoc (separated parameter_tokens ps.0 ps.1) (mark marks.RightParen c ∷ []) ws))),
@@ -252,7 +258,7 @@ sound_part n b sb ts = brackets (take_mark marks.LeftBracket ts) (mark_taken mar
         ))))
         (λ p vs g. (h ∙ g.0, g.1))
 
-    brackets : (o : Reads Span) → Holds (λ at us. ts ≡ mark marks.LeftBracket at ∷ us) o
+    brackets : (o : Takes Span) → HoldsTaken (λ at us. ts ≡ mark marks.LeftBracket at ∷ us) o
         → Holds (One part_tokens (IsLowPart n) ts) (part_from b o ts)
     brackets None h = parens (take_mark marks.LeftParen ts) (mark_taken marks.LeftParen ts)
     brackets (Some (o, us)) h =
@@ -281,87 +287,127 @@ sound_declarator n b sb ts = under (take_pointer ts).0 (take_pointer ts).1 (take
 
 -- ---- initialisers
 
-comma_taken : (ts : List Token) → ts ≡ maybe_comma_tokens (take_comma ts).0 ++ (take_comma ts).1
-comma_taken ts = under (take_mark marks.Comma ts) (mark_taken marks.Comma ts)
-  where
-    under : (o : Reads Span) → Holds (λ at us. ts ≡ mark marks.Comma at ∷ us) o → ts
-        ≡ maybe_comma_tokens (comma_from o ts).0 ++ (comma_from o ts).1
-    under None h = refl
-    under (Some (at, us)) h = h
+-- values in braces, with the comma behind the last of them
+pub record SoundBraced (h : ℕ) (ts : List Token) (braced : Braced) (us : List Token) : Type 0 where
+  pub tokens : ts ≡ (exprs_tokens (exprs_of braced.0.0) braced.0.1 ++ maybe_comma_tokens braced.1) ++ us
+  pub are : AreValues (exprs_of braced.0.0)
+  pub apart : Separate (exprs_of braced.0.0) braced.0.1
+  pub low : exprs_height (exprs_of braced.0.0) ≤ h
+  pub some : 1 ≤ length braced.0.0
 
-sound_brace : (n : ℕ) (b : Readers) → SoundReaders n b → (ts : List Token) (a : Values) (us : List Token)
-    → SoundValues n ts a us → HoldsStep (SoundValues n ts) (brace_step b a us)
-sound_brace n b sb ts a us s = under (take_mark marks.Comma us) (mark_taken marks.Comma us)
-  where
-    closes : (at : Span) (vs : List Token) → us ≡ mark marks.Comma at ∷ vs → (o : Reads Span)
-        → HoldsStep (SoundValues n ts) (brace_close b a at o vs)
-    closes at vs h (Some close) = tt
-    closes at vs h None = step_then (Sound 15 n vs) (SoundValues n ts) (b.assignment vs) _ (sb.assignment vs)
-        (λ e ws g. values_push n ts a.0 a.1 us vs ws at e s h g)
+pub without_comma : (h : ℕ) (ts : List Token) (values : Values) (us : List Token) → SoundValues h ts values us
+    → SoundBraced h ts (values, None) us
+without_comma h ts values us s =
+    record {
+      tokens = s.tokens ∙ ap (λ zs. zs ++ us) (sym (append-nil (exprs_tokens (exprs_of values.0) values.1)));
+      are = s.are;
+      apart = s.apart;
+      low = s.low;
+      some = s.some;
+    }
 
-    under : (o : Reads Span) → Holds (λ at vs. us ≡ mark marks.Comma at ∷ vs) o
-        → HoldsStep (SoundValues n ts) (brace_at b a o)
+pub only_values : (h : ℕ) (ts : List Token) (values : Values) (us : List Token) → SoundBraced h ts (values, None) us
+    → SoundValues h ts values us
+only_values h ts values us s =
+    record {
+      tokens = s.tokens ∙ ap (λ zs. zs ++ us) (append-nil (exprs_tokens (exprs_of values.0) values.1));
+      are = s.are;
+      apart = s.apart;
+      low = s.low;
+      some = s.some;
+    }
+
+with_comma : (h : ℕ) (ts : List Token) (values : Values) (us vs : List Token) (at : Span) → SoundValues h ts values us
+    → us ≡ mark marks.Comma at ∷ vs → SoundBraced h ts (values, Some at) vs
+with_comma h ts values us vs at s e =
+    (let before : List Token = exprs_tokens (exprs_of values.0) values.1 in
+    record {
+      tokens = s.tokens ∙ (ap (λ zs. before ++ zs) e ∙ sym (append_assoc before (mark marks.Comma at ∷ []) vs));
+      are = s.are;
+      apart = s.apart;
+      low = s.low;
+      some = s.some;
+    })
+
+pub sound_brace : (n : ℕ) (b : Readers) → SoundReaders n b → (ts : List Token) (values : Values) (trailing : Option Span)
+    (us : List Token) → SoundBraced n ts (values, trailing) us
+    → HoldsStep (SoundBraced n ts) (brace_behind b values trailing us)
+sound_brace n b sb ts values (Some trailing) us s = tt
+sound_brace n b sb ts values None us braced = under (take_mark marks.Comma us) (mark_taken marks.Comma us)
+  where
+    s : SoundValues n ts values us
+    s = only_values n ts values us braced
+
+    closes : (at : Span) (vs : List Token) → us ≡ mark marks.Comma at ∷ vs → (o : Takes Span)
+        → HoldsStep (SoundBraced n ts) (brace_close b values at o vs)
+    closes at vs h (Some close) = with_comma n ts values us vs at s h
+    closes at vs h None = step_then (Sound 15 n vs) (SoundBraced n ts) (b.assignment vs) _ (sb.assignment vs)
+        (λ e ws g. without_comma n ts (values.0 ++ e ∷ [], values.1 ++ at ∷ []) ws
+        (values_push n ts values.0 values.1 us vs ws at e s h g))
+
+    under : (o : Takes Span) → HoldsTaken (λ at vs. us ≡ mark marks.Comma at ∷ vs) o
+        → HoldsStep (SoundBraced n ts) (brace_at b values o)
     under None h = tt
     under (Some (at, vs)) h = closes at vs h (take_mark marks.RightBrace vs)
 
-abbrev IsLowInitialiser : ℕ → InitialiserTree → Type 0
+pub sound_values : (n : ℕ) (b : Readers) → SoundReaders n b → (ts : List Token)
+    → Holds (SoundBraced n ts) (read_values b ts)
+sound_values n b sb ts = holds_then (Sound 15 n ts) (SoundBraced n ts) (b.assignment ts) _ (sb.assignment ts) (λ e us s.
+    holds_chain (SoundBraced n ts) (brace_step b) (λ a ws g. sound_brace n b sb ts a.0 a.1 ws g) (length us)
+    ((e ∷ [], []), None) us (without_comma n ts (e ∷ [], []) us (first_value n ts e us s)))
+
+abbrev pub IsLowInitialiser : ℕ → InitialiserTree → Type 0
 IsLowInitialiser h i = IsInitialiser i × (initialiser_height i ≤ h)
 
-braces_are : (n : ℕ) (o : Span) (es : List Expr) (commas : List Span) (trailing : Option Span) (c : Span)
+pub braces_are : (n : ℕ) (o : Span) (es : List Expr) (commas : List Span) (trailing : Option Span) (c : Span)
     → 1 ≤ length es → AreValues (exprs_of es) → Separate (exprs_of es) commas → exprs_height (exprs_of es) ≤ n
     → IsLowInitialiser n (Braces o (exprs_of es) commas trailing c)
 braces_are n o [] commas trailing c some are apart low = absurd (omega arith)
 braces_are n o (e ∷ es) commas trailing c some are apart low = ((are, apart), low)
 
-sound_initialiser : (n : ℕ) (b : Readers) → SoundReaders n b → (ts : List Token)
+pub sound_initialiser : (n : ℕ) (b : Readers) → SoundReaders n b → (ts : List Token)
     → Holds (One initialiser_tokens (IsLowInitialiser n) ts) (read_initialiser b ts)
 sound_initialiser n b sb ts = under (take_mark marks.LeftBrace ts) (mark_taken marks.LeftBrace ts)
   where
-    under : (o : Reads Span) → Holds (λ at us. ts ≡ mark marks.LeftBrace at ∷ us) o
+    under : (o : Takes Span) → HoldsTaken (λ at us. ts ≡ mark marks.LeftBrace at ∷ us) o
         → Holds (One initialiser_tokens (IsLowInitialiser n) ts) (initialiser_from b o ts)
     under None h = holds_then (Sound 15 n ts) (One initialiser_tokens (IsLowInitialiser n) ts) (b.assignment ts) _
         (sb.assignment ts) (λ e us s. (s.tokens, ((s.is, s.loose), s.low)))
     under (Some (o, us)) h =
-        holds_then (Sound 15 n us) (One initialiser_tokens (IsLowInitialiser n) ts) (b.assignment us) _
-        (sb.assignment us) (λ e vs s.
-        holds_then (SoundValues n us) (One initialiser_tokens (IsLowInitialiser n) ts)
-        (chained (brace_step b) (e ∷ [], []) vs) _
-        (holds_chain (SoundValues n us) (brace_step b) (λ a ws g. sound_brace n b sb us a ws g) (length vs)
-        (e ∷ [], []) vs (first_value n us e vs s)) (λ values ws g.
-        holds_then (λ c xs. (take_comma ws).1 ≡ mark marks.RightBrace c ∷ xs)
-        (One initialiser_tokens (IsLowInitialiser n) ts) (take_mark marks.RightBrace (take_comma ws).1) _
-        (mark_taken marks.RightBrace (take_comma ws).1) (λ c xs k.
-        (let trailing = (take_comma ws).0 in (
+        holds_then (SoundBraced n us) (One initialiser_tokens (IsLowInitialiser n) ts) (read_values b us) _
+        (sound_values n b sb us) (λ braced ws g.
+        holds_then (λ c xs. ws ≡ mark marks.RightBrace c ∷ xs) (One initialiser_tokens (IsLowInitialiser n) ts)
+        (read_mark marks.RightBrace ws) _ (mark_read marks.RightBrace ws) (λ c xs k.
+        (let values : List Token = exprs_tokens (exprs_of braced.0.0) braced.0.1 in
+        let comma : List Token = maybe_comma_tokens braced.1 in (
           h ∙ ap (λ zs. mark marks.LeftBrace o ∷ zs)
-              (g.tokens ∙ (ap (λ zs. exprs_tokens (exprs_of values.0) values.1 ++ zs)
-              (comma_taken ws ∙ (ap (λ zs. maybe_comma_tokens trailing ++ zs) k
-              ∙ sym (append_assoc (maybe_comma_tokens trailing) (mark marks.RightBrace c ∷ []) xs)))
-              ∙ sym (append_assoc (exprs_tokens (exprs_of values.0) values.1)
-              (maybe_comma_tokens trailing ++ mark marks.RightBrace c ∷ []) xs))),
-          braces_are n o values.0 values.1 trailing c g.some g.are g.apart g.low,
-        )))))
+              (g.tokens ∙ (ap (λ zs. (values ++ comma) ++ zs) k
+              ∙ (append_assoc values comma (mark marks.RightBrace c ∷ xs)
+              ∙ (ap (λ zs. values ++ zs) (sym (append_assoc comma (mark marks.RightBrace c ∷ []) xs))
+              ∙ sym (append_assoc values (comma ++ mark marks.RightBrace c ∷ []) xs))))),
+          braces_are n o braced.0.0 braced.0.1 braced.1 c g.some g.are g.apart g.low,
+        ))))
 
 -- ---- items and declarations
 
-abbrev IsLowValue : ℕ → Option ValueTree → Type 0
+abbrev pub IsLowValue : ℕ → Option ValueTree → Type 0
 IsLowValue h v = IsMaybeValue v × (value_height v ≤ h)
 
-sound_value_part : (n : ℕ) (b : Readers) → SoundReaders n b → (ts : List Token)
+pub sound_value_part : (n : ℕ) (b : Readers) → SoundReaders n b → (ts : List Token)
     → Holds (One value_tokens (IsLowValue n) ts) (value_from b (take_mark marks.Equal ts) ts)
 sound_value_part n b sb ts = under (take_mark marks.Equal ts) (mark_taken marks.Equal ts)
   where
-    under : (o : Reads Span) → Holds (λ at us. ts ≡ mark marks.Equal at ∷ us) o
+    under : (o : Takes Span) → HoldsTaken (λ at us. ts ≡ mark marks.Equal at ∷ us) o
         → Holds (One value_tokens (IsLowValue n) ts) (value_from b o ts)
     under None h = (refl, (tt, omega arith))
     under (Some (at, us)) h =
-        holds_then (One initialiser_tokens (IsLowInitialiser n) us) (One value_tokens (IsLowValue n) ts)
-        (read_initialiser b us) _ (sound_initialiser n b sb us)
-        (λ v vs g. (h ∙ ap (λ zs. mark marks.Equal at ∷ zs) g.0, g.1))
+        holds_above (One initialiser_tokens (IsLowInitialiser n) us) (One value_tokens (IsLowValue n) ts) 0 b.height _ us
+        (read_initialiser b us) _ (sound_initialiser n b sb us) (λ v vs some g. (h ∙ ap (λ zs. mark marks.Equal at ∷ zs) g.0, g.1))
 
-abbrev IsLowItem : ℕ → ItemTree → Type 0
+abbrev pub IsLowItem : ℕ → ItemTree → Type 0
 IsLowItem h i = IsItem i × (item_height i ≤ h)
 
-sound_item_behind : (n : ℕ) (b : Readers) → SoundReaders n b → (ts : List Token) (d : DeclaratorTree) (us : List Token)
+pub sound_item_behind : (n : ℕ) (b : Readers) → SoundReaders n b → (ts : List Token) (d : DeclaratorTree) (us : List Token)
     → One declarator_tokens (IsLowDeclarator n) ts d us → Holds (One item_tokens (IsLowItem n) ts) (item_behind b d us)
 sound_item_behind n b sb ts d us s =
     holds_then (One value_tokens (IsLowValue n) us) (One item_tokens (IsLowItem n) ts)
@@ -370,7 +416,7 @@ sound_item_behind n b sb ts d us s =
       ((s.1.0, g.1.0), omega (arith, s.1.1, g.1.1)),
     ))
 
-sound_item : (n : ℕ) (b : Readers) → SoundReaders n b → (ts : List Token)
+pub sound_item : (n : ℕ) (b : Readers) → SoundReaders n b → (ts : List Token)
     → Holds (One item_tokens (IsLowItem n) ts) (read_item b ts)
 sound_item n b sb ts = holds_then (One declarator_tokens (IsLowDeclarator n) ts) (One item_tokens (IsLowItem n) ts)
     (read_declarator b ts) _ (sound_declarator n b sb ts) (λ d us s. sound_item_behind n b sb ts d us s)
@@ -378,7 +424,7 @@ sound_item n b sb ts = holds_then (One declarator_tokens (IsLowDeclarator n) ts)
 abbrev pub IsLowDeclaration : ℕ → DeclarationTree → Type 0
 IsLowDeclaration h d = IsDeclaration d × (declaration_height d ≤ h)
 
-items_are : (is : List ItemTree) → 1 ≤ length is → AllByRecursion IsItem is → AreItems is
+pub items_are : (is : List ItemTree) → 1 ≤ length is → AllByRecursion IsItem is → AreItems is
 items_are [] some all = absurd (omega arith)
 items_are (i ∷ is) some all = all
 
@@ -394,7 +440,7 @@ sound_declaration_behind n b sb ts ss us d vs is h s =
     (read_more (read_item b) i ws) _ (sound_more item_tokens (IsLowItem n) (read_item b) (sound_item n b sb) us i ws
     g) (λ items xs k.
     holds_then (λ c ys. xs ≡ mark marks.Semicolon c ∷ ys) (One declaration_tokens (IsLowDeclaration (suc n)) ts)
-    (take_mark marks.Semicolon xs) _ (mark_taken marks.Semicolon xs) (λ c ys m.
+    (read_mark marks.Semicolon xs) _ (mark_read marks.Semicolon xs) (λ c ys m.
     (let r = all_low IsItem item_height n items.0 k.all in (
       h ∙ (ap (λ zs. specifiers_tokens ss ++ zs)
           (k.tokens_are ∙ (ap (λ zs. separated item_tokens items.0 items.1 ++ zs) m

@@ -1,7 +1,7 @@
 -- Every statement and every unit is read.
 use Rattle.std.specs.List.{AllByRecursion}
 use Rattle.std.proofs.Common.{◌≡◌, ℕ, zero, suc, ◌+◌, ◌≤◌, ◌<◌, Bool, true, false, List, [], ◌∷◌, ◌++◌, length}
-use Rattle.std.proofs.Common.{length-append, Option, Some, None, refl, ap, sym, ◌∙◌, subst, arith, append_assoc}
+use Rattle.std.proofs.Common.{length-append, ltb, Option, Some, None, refl, ap, sym, ◌∙◌, subst, arith, append_assoc}
 use Rattle.std.proofs.lemmas.List.{append-nil}
 use Rattle.pcc_base.specs.declared.span.Span.{Span}
 use Rattle.pcc_base.specs.declared.keyword.Keyword.TheVariants as words
@@ -25,13 +25,13 @@ use Rattle.c_syntax.specs.StatementTokens.{stmt_height, stmts_height, ends_open,
 use Rattle.c_syntax.specs.StatementTokens.{IsBlockItem, IsCase, IsStmt, AreItems, AreCases}
 use Rattle.c_syntax.specs.Grammar.{external_tokens, unit_tokens, external_height, HasParameters, IsBlock, IsExternal}
 use Rattle.c_syntax.specs.Grammar.{Tree}
-use Rattle.c_grammar.specs.Chains.{Done, Goes, Reads, then_read}
+use Rattle.c_grammar.specs.Chains.{Done, Goes, Takes, Reads, Found, then_read}
 use Rattle.c_grammar.proofs.Chains.{Continues, continues_start, continues_goes, continues_done}
 use Rattle.c_grammar.specs.Taking.{take_mark, take_word, take_specifiers}
 use Rattle.c_grammar.specs.Reading.{Readers, readers}
 use Rattle.c_grammar.proofs.Reading.{readers-none}
 use Rattle.c_grammar.proofs.Heads.{expression_no_mark, expression_no_word, expression_no_specifiers}
-use Rattle.c_grammar.proofs.Complete.{Complete, complete, loosest, takes_specifiers}
+use Rattle.c_grammar.proofs.Complete.{Complete, complete, has_room, height_above, loosest, takes_specifiers}
 use Rattle.c_grammar.specs.DeclarationReading.{maybe_before, read_declarator, declaration_behind, read_declaration}
 use Rattle.c_grammar.proofs.DeclarationComplete.{MaybeFits, maybe_read, declaration_read, declarator_read}
 use Rattle.c_grammar.proofs.DeclarationComplete.{declarator_no_specifier}
@@ -45,21 +45,21 @@ use Rattle.c_grammar.proofs.StatementReading.{below_of-suc, below_of-none}
 abbrev pub FindsStmt : ℕ → StmtReader → Type 0
 FindsStmt h read =
     (s : Stmt) (rest : List Token) → IsStmt s → IsPlain s → stmt_height s ≤ h
-    → (ends_open s ≡ true → take_word words.Else rest ≡ None) → read (stmt_tokens s ++ rest) ≡ Some (s, rest)
+    → (ends_open s ≡ true → take_word words.Else rest ≡ None) → read (stmt_tokens s ++ rest) ≡ Found s rest
 
 abbrev pub FindsItem : ℕ → StmtReader → Type 0
 FindsItem h read =
     (s : Stmt) (rest : List Token) → IsStmt s → IsBlockItem s → stmt_height s ≤ h → take_word words.Else rest ≡ None
-    → read (stmt_tokens s ++ rest) ≡ Some (s, rest)
+    → read (stmt_tokens s ++ rest) ≡ Found s rest
 
 abbrev pub FindsCase : ℕ → StmtReader → Type 0
 FindsCase h read =
     (s : Stmt) (rest : List Token) → IsStmt s → IsCase s → stmt_height s ≤ h → take_word words.Else rest ≡ None
-    → read (stmt_tokens s ++ rest) ≡ Some (s, rest)
+    → read (stmt_tokens s ++ rest) ≡ Found s rest
 
 abbrev pub FindsDeclaration : ℕ → (List Token → Reads DeclarationTree) → Type 0
 FindsDeclaration h read = (d : DeclarationTree) (rest : List Token) → IsDeclaration d → declaration_height d ≤ h
-    → read (declaration_tokens d ++ rest) ≡ Some (d, rest)
+    → read (declaration_tokens d ++ rest) ≡ Found d rest
 
 -- the readers of what stands below a node
 pub record CompleteBelow (h : ℕ) (b : Below) : Type 0 where
@@ -195,7 +195,7 @@ case_follows _ rest is case = absurd case
 
 condition_read : (n : ℕ) (b : Below) → CompleteBelow n b → (o : Span) (e : Expr) (c : Span) (behind rest : List Token)
     → IsExpr e → expr_height e ≤ n →
-    read_condition b (in_parens o e c behind ++ rest) ≡ Some ((o, e, c), behind ++ rest)
+    read_condition b (in_parens o e c behind ++ rest) ≡ Found (o, e, c) (behind ++ rest)
 condition_read n b cb o e c behind rest is low =
     rw (
       append_assoc (expr_tokens e) (mark marks.RightParen c ∷ behind) rest,
@@ -210,7 +210,7 @@ maybe_fits n (Some e) is low = (is, loosest e, low)
 before_semicolon : (n : ℕ) (b : Below) → CompleteBelow n b → (e : Option Expr) (at : Span) (rest : List Token)
     → IsMaybeExpr e → maybe_expr_height e ≤ n →
     maybe_before b.exprs.expression marks.Semicolon (maybe_expr_tokens e ++ mark marks.Semicolon at ∷ rest)
-    ≡ Some (e, mark marks.Semicolon at ∷ rest)
+    ≡ Found e (mark marks.Semicolon at ∷ rest)
 before_semicolon n b cb e at rest is low =
     maybe_read marks.Semicolon 16 n b.exprs.expression cb.exprs.expression refl (omega arith) e at rest
     (maybe_fits n e is low) (omega arith)
@@ -218,7 +218,7 @@ before_semicolon n b cb e at rest is low =
 before_close : (n : ℕ) (b : Below) → CompleteBelow n b → (e : Option Expr) (at : Span) (rest : List Token)
     → IsMaybeExpr e → maybe_expr_height e ≤ n →
     maybe_before b.exprs.expression marks.RightParen (maybe_expr_tokens e ++ mark marks.RightParen at ∷ rest)
-    ≡ Some (e, mark marks.RightParen at ∷ rest)
+    ≡ Found e (mark marks.RightParen at ∷ rest)
 before_close n b cb e at rest is low = maybe_read marks.RightParen 16 n b.exprs.expression cb.exprs.expression refl
     (omega arith) e at rest (maybe_fits n e is low) (omega arith)
 
@@ -233,7 +233,7 @@ for_rest_read : (n : ℕ) (b : Below) → CompleteBelow n b
     IsMaybeExpr condition → maybe_expr_height condition ≤ n → IsMaybeExpr step → maybe_expr_height step ≤ n → IsStmt s
     → IsPlain s → stmt_height s ≤ n → (ends_open s ≡ true → take_word words.Else rest ≡ None) →
     read_for_rest b (for_rest_tokens condition second step c (stmt_tokens s) ++ rest)
-    ≡ Some ((condition, second, step, c, s), rest)
+    ≡ Found (condition, second, step, c, s) rest
 for_rest_read n b cb condition second step c s rest is1 low1 is2 low2 is plain low open_else =
     (let tail : List Token = mark marks.RightParen c ∷ (stmt_tokens s ++ rest) in
     let more : List Token = maybe_expr_tokens step ++ mark marks.RightParen c ∷ stmt_tokens s in
@@ -310,7 +310,7 @@ row_follows P follows (OneStmt s ss) c rest are =
 
 row_continue : (read : StmtReader) (P : Stmt → Type 0) (n : ℕ) →
     ((s : Stmt) (rest : List Token) → IsStmt s → P s → stmt_height s ≤ n → take_word words.Else rest ≡ None
-    → read (stmt_tokens s ++ rest) ≡ Some (s, rest)) →
+    → read (stmt_tokens s ++ rest) ≡ Found s rest) →
     ((s : Stmt) (rest : List Token) → IsStmt s → P s → Follows (stmt_tokens s ++ rest)) →
     (ss : Stmts) (c : Span) (rest : List Token) (a : List Stmt) (out : Reads (List Stmt)) → AllStmts P ss
     → stmts_height ss ≤ n →
@@ -324,7 +324,7 @@ row_continue read P n finds follows (OneStmt s ss) c rest a out are low before =
     let more : List Token = stmts_tokens ss ++ close in
     let group : (stmt_tokens s ++ stmts_tokens ss) ++ close ≡ stmt_tokens s ++ more =
     append_assoc (stmt_tokens s) (stmts_tokens ss) close in
-    let one : read (stmt_tokens s ++ more) ≡ Some (s, more) =
+    let one : read (stmt_tokens s ++ more) ≡ Found s more =
     finds s more are.0 are.1 (omega arith) (row_follows P follows ss c rest are.2) in
     let none : take_mark marks.RightBrace (stmt_tokens s ++ more) ≡ None = (follows s more are.0 are.1).no_close in
     let goes : until_step read a (stmt_tokens s ++ more) ≡ Goes (a ++ s ∷ []) more = rw (none, one) refl in
@@ -340,11 +340,11 @@ row_continue read P n finds follows (OneStmt s ss) c rest a out are low before =
 -- statements of one kind up to a `}`
 row_read : (read : StmtReader) (P : Stmt → Type 0) (n : ℕ) →
     ((s : Stmt) (rest : List Token) → IsStmt s → P s → stmt_height s ≤ n → take_word words.Else rest ≡ None
-    → read (stmt_tokens s ++ rest) ≡ Some (s, rest)) →
+    → read (stmt_tokens s ++ rest) ≡ Found s rest) →
     ((s : Stmt) (rest : List Token) → IsStmt s → P s → Follows (stmt_tokens s ++ rest)) →
     (ss : Stmts) (c : Span) (rest : List Token) → AllStmts P ss → stmts_height ss ≤ n →
     read_until read (stmts_tokens ss ++ mark marks.RightBrace c ∷ rest)
-    ≡ Some (stmt_list ss, mark marks.RightBrace c ∷ rest)
+    ≡ Found (stmt_list ss) (mark marks.RightBrace c ∷ rest)
 row_read read P n finds follows ss c rest are low =
     continues_done _ _ _ _ (row_continue read P n finds follows ss c rest [] _ are low
     (continues_start (until_step read) [] (stmts_tokens ss ++ mark marks.RightBrace c ∷ rest))) refl
@@ -352,7 +352,7 @@ row_read read P n finds follows ss c rest are low =
 items_read : (n : ℕ) (b : Below) → CompleteBelow n b → (ss : Stmts) (c : Span) (rest : List Token) → AreItems ss
     → stmts_height ss ≤ n →
     read_until b.item ((stmts_tokens ss ++ mark marks.RightBrace c ∷ []) ++ rest)
-    ≡ Some (stmt_list ss, mark marks.RightBrace c ∷ rest)
+    ≡ Found (stmt_list ss) (mark marks.RightBrace c ∷ rest)
 items_read n b cb ss c rest are low =
     ap (read_until b.item) (append_assoc (stmts_tokens ss) (mark marks.RightBrace c ∷ []) rest)
     ∙ row_read b.item IsBlockItem n cb.item item_follows ss c rest (all_items ss are) low
@@ -360,16 +360,26 @@ items_read n b cb ss c rest are low =
 cases_read : (n : ℕ) (b : Below) → CompleteBelow n b → (ss : Stmts) (c : Span) (rest : List Token) → AreCases ss
     → stmts_height ss ≤ n →
     read_until b.labelled ((stmts_tokens ss ++ mark marks.RightBrace c ∷ []) ++ rest)
-    ≡ Some (stmt_list ss, mark marks.RightBrace c ∷ rest)
+    ≡ Found (stmt_list ss) (mark marks.RightBrace c ∷ rest)
 cases_read n b cb ss c rest are low =
     ap (read_until b.labelled) (append_assoc (stmts_tokens ss) (mark marks.RightBrace c ∷ []) rest)
     ∙ row_read b.labelled IsCase n cb.labelled case_follows ss c rest (all_cases ss are) low
+
+-- a statement is a node
+stmt_above : (s : Stmt) → 1 ≤ stmt_height s
+stmt_above (Labelled before s) = omega (arith, stmt_above s)
+stmt_above (Declared d) = omega arith
+stmt_above _ = omega arith
+
+-- there is room below a node above such a part
+room_below : (n part : ℕ) (b : Below) → CompleteBelow n b → 1 ≤ part → part ≤ n → ltb 0 b.exprs.height ≡ true
+room_below n part b cb some low = has_room n b.exprs cb.exprs (omega arith)
 
 -- ---- statements
 
 simple_read : (n : ℕ) (b : Below) → CompleteBelow n b → (e : Expr) (semicolon : Span) (rest : List Token) → IsExpr e
     → expr_height e ≤ n → read_statement b ((expr_tokens e ++ mark marks.Semicolon semicolon ∷ []) ++ rest)
-    ≡ Some (Simple (Some e) semicolon, rest)
+    ≡ Found (Simple (Some e) semicolon) rest
 simple_read n b cb e semicolon rest is low =
     (let ts : List Token = mark marks.Semicolon semicolon ∷ rest in
     let group : (expr_tokens e ++ mark marks.Semicolon semicolon ∷ []) ++ rest ≡ expr_tokens e ++ ts =
@@ -397,7 +407,7 @@ for_read : (n : ℕ) (b : Below) → CompleteBelow n b
     for_behind b at (mark marks.LeftParen o ∷
     ((maybe_expr_tokens start ++ mark marks.Semicolon first
     ∷ for_rest_tokens condition second step c (stmt_tokens s)) ++ rest))
-    ≡ Some (For at o start first condition second step c s, rest)
+    ≡ Found (For at o start first condition second step c s) rest
 for_read n b cb at o start first condition second step c s rest is low open_else =
     (let more : List Token = for_rest_tokens condition second step c (stmt_tokens s) in
     let group : (maybe_expr_tokens start ++ mark marks.Semicolon first ∷ more) ++ rest
@@ -407,7 +417,13 @@ for_read n b cb at o start first condition second step c s rest is low open_else
     start_no_specifier start (more ++ rest) is.0 in
     let tail = for_rest_read n b cb condition second step c s rest is.1 (omega arith) is.2 (omega arith) is.3 is.4
     (omega arith) open_else in
-    rw (group, no_words, before_semicolon n b cb start first (more ++ rest) is.0 (omega arith), tail) refl)
+    rw (
+      room_below n (stmt_height s) b cb (stmt_above s) (omega arith),
+      group,
+      no_words,
+      before_semicolon n b cb start first (more ++ rest) is.0 (omega arith),
+      tail,
+    ) refl)
   where
     start_no_specifier : (start : Option Expr) (ts : List Token) → IsMaybeExpr start
         → (take_specifiers (maybe_expr_tokens start ++ mark marks.Semicolon first ∷ ts)).0 ≡ []
@@ -416,11 +432,11 @@ for_read n b cb at o start first condition second step c s rest is low open_else
 
 for_declaration_reads : (b : Below) (at o : Span) (s : Specifier) (ss : List Specifier) (ts us : List Token)
     (d : DeclarationTree) (vs : List Token) (condition : Option Expr) (second : Span) (step : Option Expr) (c : Span)
-    (body : Stmt) (rest : List Token) →
-    take_specifiers ts ≡ (s ∷ ss, us) → b.declaration ts ≡ Some (d, vs) → read_for_rest b vs
-    ≡ Some ((condition, second, step, c, body), rest) →
-    for_behind b at (mark marks.LeftParen o ∷ ts) ≡ Some (ForDeclaration at o d condition second step c body, rest)
-for_declaration_reads b at o s ss ts us d vs condition second step c body rest e f g = rw (e, f, g) refl
+    (body : Stmt) (rest : List Token) → ltb 0 b.exprs.height ≡ true →
+    take_specifiers ts ≡ (s ∷ ss, us) → b.declaration ts ≡ Found d vs → read_for_rest b vs
+    ≡ Found (condition, second, step, c, body) rest →
+    for_behind b at (mark marks.LeftParen o ∷ ts) ≡ Found (ForDeclaration at o d condition second step c body) rest
+for_declaration_reads b at o s ss ts us d vs condition second step c body rest room e f g = rw (room, e, f, g) refl
 
 -- the specifiers of a declaration
 specifiers_of : (d : DeclarationTree) (rest : List Token) (n : ℕ) → IsDeclaration d → declaration_height d ≤ suc n
@@ -446,7 +462,7 @@ for_declaration_read : (n : ℕ) (b : Below) → CompleteBelow n b
     → (ends_open s ≡ true → take_word words.Else rest ≡ None) →
     for_behind b at (mark marks.LeftParen o ∷
     ((declaration_tokens d ++ for_rest_tokens condition second step c (stmt_tokens s)) ++ rest))
-    ≡ Some (ForDeclaration at o d condition second step c s, rest)
+    ≡ Found (ForDeclaration at o d condition second step c s) rest
 for_declaration_read n b cb at o d condition second step c s rest is low open_else =
     (let more : List Token = for_rest_tokens condition second step c (stmt_tokens s) in
     let group : (declaration_tokens d ++ more) ++ rest ≡ declaration_tokens d ++ (more ++ rest) =
@@ -454,11 +470,11 @@ for_declaration_read n b cb at o d condition second step c s rest is low open_el
     let front = specifiers_of d (more ++ rest) n is.0 (omega arith) in
     let tail = for_rest_read n b cb condition second step c s rest is.1 (omega arith) is.2 (omega arith) is.3 is.4
     (omega arith) open_else in
-    let read : b.declaration (declaration_tokens d ++ (more ++ rest)) ≡ Some (d, more ++ rest) =
+    let read : b.declaration (declaration_tokens d ++ (more ++ rest)) ≡ Found d (more ++ rest) =
     cb.declaration d (more ++ rest) is.0 (omega arith) in
     ap (λ ts. for_behind b at (mark marks.LeftParen o ∷ ts)) group
     ∙ for_declaration_reads b at o front.0 front.1 (declaration_tokens d ++ (more ++ rest)) front.2 d (more ++ rest)
-    condition second step c s rest front.3 read tail)
+    condition second step c s rest (room_below n (stmt_height s) b cb (stmt_above s) (omega arith)) front.3 read tail)
 
 pub finds_statement : (n : ℕ) (b : Below) → CompleteBelow n b → FindsStmt (suc n) (read_statement b)
 finds_statement n b cb (Declared d) rest is plain low open_else = absurd plain
@@ -470,6 +486,7 @@ finds_statement n b cb (Simple (Some e) semicolon) rest is plain low open_else =
     simple_read n b cb e semicolon rest is (omega arith)
 finds_statement n b cb (If at o e c s) rest is plain low open_else =
     rw (
+      room_below n (expr_height e) b cb (height_above e) (omega arith),
       condition_read n b cb o e c (stmt_tokens s) rest is.0 (omega arith),
       cb.statement s rest is.1 is.2 (omega arith) (λ x. open_else refl),
       open_else refl,
@@ -479,6 +496,7 @@ finds_statement n b cb (IfElse at o e c s otherwise t) rest is plain low open_el
     let group : (stmt_tokens s ++ more) ++ rest ≡ stmt_tokens s ++ (more ++ rest) =
     append_assoc (stmt_tokens s) more rest in
     rw (
+      room_below n (expr_height e) b cb (height_above e) (omega arith),
       condition_read n b cb o e c (stmt_tokens s ++ more) rest is.0 (omega arith),
       group,
       cb.statement s (more ++ rest) is.1 is.2 (omega arith)
@@ -487,6 +505,7 @@ finds_statement n b cb (IfElse at o e c s otherwise t) rest is plain low open_el
     ) refl)
 finds_statement n b cb (Switch at o e c begin items end) rest is plain low open_else =
     rw (
+      room_below n (expr_height e) b cb (height_above e) (omega arith),
       condition_read n b cb o e c (mark marks.LeftBrace begin
           ∷ (stmts_tokens items ++ mark marks.RightBrace end ∷ [])) rest is.0 (omega arith),
       cases_read n b cb items end rest is.1 (omega arith),
@@ -494,6 +513,7 @@ finds_statement n b cb (Switch at o e c begin items end) rest is plain low open_
     ) refl
 finds_statement n b cb (While at o e c s) rest is plain low open_else =
     rw (
+      room_below n (expr_height e) b cb (height_above e) (omega arith),
       condition_read n b cb o e c (stmt_tokens s) rest is.0 (omega arith),
       cb.statement s rest is.1 is.2 (omega arith) open_else,
     ) refl
@@ -502,6 +522,7 @@ finds_statement n b cb (Do at s until o e c semicolon) rest is plain low open_el
     let group : (stmt_tokens s ++ more) ++ rest ≡ stmt_tokens s ++ (more ++ rest) =
     append_assoc (stmt_tokens s) more rest in
     rw (
+      room_below n (expr_height e) b cb (height_above e) (omega arith),
       group,
       cb.statement s (more ++ rest) is.0 is.1 (omega arith) (λ (x : ends_open s ≡ true). refl),
       condition_read n b cb o e c (mark marks.Semicolon semicolon ∷ []) rest is.2 (omega arith),
@@ -523,14 +544,14 @@ finds_statement n b cb (Return at e semicolon) rest is plain low open_else =
 -- no declaration, so a statement
 plain_item : (n : ℕ) (b : Below) → CompleteBelow n b → (declaration : List Token → Reads DeclarationTree)
     → (s : Stmt) (rest : List Token) → IsStmt s → IsPlain s → stmt_height s ≤ suc n → take_word words.Else rest ≡ None →
-    read_block_item declaration (read_statement b) (stmt_tokens s ++ rest) ≡ Some (s, rest)
+    read_block_item declaration (read_statement b) (stmt_tokens s ++ rest) ≡ Found s rest
 plain_item n b cb declaration s rest is plain low no_else =
     rw (stmt_no_specifier s rest is plain) (finds_statement n b cb s rest is plain low (λ x. no_else))
 
 declared_item : (declaration : List Token → Reads DeclarationTree) (statement : StmtReader) (ts : List Token)
     (s : Specifier) (ss : List Specifier) (us : List Token) (d : DeclarationTree) (rest : List Token)
-    → take_specifiers ts ≡ (s ∷ ss, us) → declaration ts ≡ Some (d, rest) → read_block_item declaration statement ts
-    ≡ Some (Declared d, rest)
+    → take_specifiers ts ≡ (s ∷ ss, us) → declaration ts ≡ Found d rest → read_block_item declaration statement ts
+    ≡ Found (Declared d) rest
 declared_item declaration statement ts s ss us d rest e f = rw (e, f) refl
 
 finds_item : (n : ℕ) (b : Below) → CompleteBelow n b
@@ -580,7 +601,7 @@ labels_continue h b cb (Case at e colon ∷ ls) a ts out are low before =
     let group : (front ++ labels_tokens ls) ++ ts ≡ expr_tokens e ++ mark marks.Colon colon ∷ more =
     append_assoc front (labels_tokens ls) ts ∙ append_assoc (expr_tokens e) (mark marks.Colon colon ∷ []) more in
     let read : b.conditional (expr_tokens e ++ mark marks.Colon colon ∷ more)
-    ≡ Some (e, mark marks.Colon colon ∷ more) =
+    ≡ Found e (mark marks.Colon colon ∷ more) =
     cb.conditional e (mark marks.Colon colon ∷ more) are.0.0 are.0.1 (omega arith) (omega arith) in
     let goes : label_step b.conditional a (labels_tokens (Case at e colon ∷ ls) ++ ts)
     ≡ Goes (a ++ Case at e colon ∷ []) more = rw (group, read) refl in
@@ -610,17 +631,12 @@ finds_labelled n b cb r cr (Labelled before s) rest is case low no_else =
     let done : label_step r.conditional before ts ≡ Done = rw (begins.no_case, begins.no_default) refl in
     let all = labels_continue (suc n) r cr before [] ts _ is.0 (omega arith)
     (continues_start (label_step r.conditional) [] (labels_tokens before ++ ts)) in
-    let read : read_labels r.conditional (labels_tokens before ++ ts) ≡ Some (before, ts) =
+    let read : read_labels r.conditional (labels_tokens before ++ ts) ≡ Found before ts =
     continues_done _ _ _ _ all done in
     rw (group, read, finds_statement n b cb s rest is.1 is.2 (omega arith) (λ x. no_else)) refl)
 finds_labelled n b cb r cr _ rest is case low no_else = absurd case
 
 -- ---- by height
-
-stmt_above : (s : Stmt) → 1 ≤ stmt_height s
-stmt_above (Labelled before s) = omega (arith, stmt_above s)
-stmt_above (Declared d) = omega arith
-stmt_above _ = omega arith
 
 -- the readers for a height find everything that is at most so high
 pub complete_below : (height : ℕ) → CompleteBelow height (below_of height)
@@ -649,27 +665,27 @@ complete_below (suc n) =
 -- ---- units
 
 -- without a body it is a declaration
-external_without : (b : Below) (ss : List Specifier) (first : DeclaratorTree) (x : Bool) (brace : Reads Span)
+external_without : (b : Below) (ss : List Specifier) (first : DeclaratorTree) (x : Bool) (brace : Takes Span)
     (vs : List Token) → brace ≡ None → external_from b ss first x brace vs
-    ≡ then_read (declaration_behind b.exprs ss first vs) (λ d us. Some (DeclaredTree d, us))
+    ≡ then_read (declaration_behind b.exprs ss first vs) (λ d us. Found (DeclaredTree d) us)
 external_without b ss first true None vs none = refl
 external_without b ss first false None vs none = refl
 external_without b ss first x (Some brace) vs none = absurd (let wrong : Some brace ≡ None = none in cc)
 
 external_declared : (b : Below) (ts : List Token) (ss : List Specifier) (us : List Token) (first : DeclaratorTree)
     (vs : List Token) (d : DeclarationTree) (rest : List Token) → IsSpecifiers ss →
-    take_specifiers ts ≡ (ss, us) → read_declarator b.exprs us ≡ Some (first, vs) → take_mark marks.LeftBrace vs ≡ None
-    → declaration_behind b.exprs ss first vs ≡ Some (d, rest) → read_external b ts ≡ Some (DeclaredTree d, rest)
+    take_specifiers ts ≡ (ss, us) → read_declarator b.exprs us ≡ Found first vs → take_mark marks.LeftBrace vs ≡ None
+    → declaration_behind b.exprs ss first vs ≡ Found d rest → read_external b ts ≡ Found (DeclaredTree d) rest
 external_declared b ts [] us first vs d rest is e f g h = absurd is
 external_declared b ts (s ∷ ss) us first vs d rest is e f g h =
     rw (e, f) (external_without b (s ∷ ss) first (has_parameters first.part) (take_mark marks.LeftBrace vs) vs g
-    ∙ ap (λ (r : Reads DeclarationTree). then_read r (λ x us. Some (DeclaredTree x, us))) h)
+    ∙ ap (λ (r : Reads DeclarationTree). then_read r (λ x us. Found (DeclaredTree x) us)) h)
 
 external_function : (b : Below) (ts : List Token) (ss : List Specifier) (us : List Token) (d : DeclaratorTree)
     (vs : List Token) (o : Span) (ws : List Token) (s : Stmt) (rest : List Token) → IsSpecifiers ss
     → has_parameters d.part ≡ true →
-    take_specifiers ts ≡ (ss, us) → read_declarator b.exprs us ≡ Some (d, vs) → take_mark marks.LeftBrace vs
-    ≡ Some (o, ws) → b.statement vs ≡ Some (s, rest) → read_external b ts ≡ Some (FunctionTree ss d s, rest)
+    take_specifiers ts ≡ (ss, us) → read_declarator b.exprs us ≡ Found d vs → take_mark marks.LeftBrace vs
+    ≡ Some (o, ws) → b.statement vs ≡ Found s rest → read_external b ts ≡ Found (FunctionTree ss d s) rest
 external_function b ts [] us d vs o ws s rest is p e f g h = absurd is
 external_function b ts (x ∷ ss) us d vs o ws s rest is p e f g h = rw (e, f, p, g, h) refl
 
@@ -681,7 +697,7 @@ parameters_true (Array a) has = absurd has
 -- what is known of a block
 body_read : (n : ℕ) (b : Below) → CompleteBelow n b → (s : Stmt) (rest : List Token) → IsStmt s → IsBlock s
     → stmt_height s ≤ n →
-    (b.statement (stmt_tokens s ++ rest) ≡ Some (s, rest))
+    (b.statement (stmt_tokens s ++ rest) ≡ Found s rest)
     × ((o : Span) × (ws : List Token) × (take_mark marks.LeftBrace (stmt_tokens s ++ rest) ≡ Some (o, ws)))
     × (take_mark marks.LeftBracket (stmt_tokens s ++ rest) ≡ None)
     × (take_mark marks.LeftParen (stmt_tokens s ++ rest) ≡ None)
@@ -694,7 +710,7 @@ body_read n b cb (Block o items c) rest is block low = (
 body_read n b cb _ rest is block low = absurd block
 
 external_read : (n : ℕ) (b : Below) → CompleteBelow n b → (e : ExternalTree) (rest : List Token) → IsExternal e
-    → external_height e ≤ suc n → read_external b (external_tokens e ++ rest) ≡ Some (e, rest)
+    → external_height e ≤ suc n → read_external b (external_tokens e ++ rest) ≡ Found e rest
 external_read n b cb (DeclaredTree d) rest is low =
     (let r = declaration_read n b.exprs cb.exprs d rest is low in
     external_declared b (declaration_tokens d ++ rest) d.specifiers r.behind_specifiers r.first r.behind_first d rest
@@ -718,7 +734,7 @@ external_nonempty (DeclaredTree d) is = first_specifier d.specifiers
 external_nonempty (FunctionTree ss d s) is = first_specifier ss (declarator_tokens d ++ stmt_tokens s) is.0
 
 pub unit_goes : (b : Below) (a : List ExternalTree) (ts : List Token) (e : ExternalTree) (us : List Token)
-    → 1 ≤ length ts → read_external b ts ≡ Some (e, us) → unit_step b a ts ≡ Goes (a ++ e ∷ []) us
+    → 1 ≤ length ts → read_external b ts ≡ Found e us → unit_step b a ts ≡ Goes (a ++ e ∷ []) us
 unit_goes b a [] e us some read = absurd (omega arith)
 unit_goes b a (t ∷ ts) e us some read = rw read refl
 
@@ -741,7 +757,7 @@ unit_continue n b cb (e ∷ es) a out are low before =
 
 -- a unit is read whole
 pub unit_read : (n : ℕ) (es : List ExternalTree) → AllByRecursion IsExternal es → greatest external_height es ≤ suc n
-    → read_unit (below_of n) (unit_tokens es) ≡ Some (es, [])
+    → read_unit (below_of n) (unit_tokens es) ≡ Found es []
 unit_read n es are low =
     continues_done _ _ _ _ (unit_continue n (below_of n) (complete_below n) es [] _ are low
     (continues_start (unit_step (below_of n)) [] (unit_tokens es))) refl
@@ -749,12 +765,15 @@ unit_read n es are low =
 -- ---- one tree
 
 pub tree_read : (n : ℕ) (tokens : List Token) (h : ℕ) (t : List ExternalTree) → Tree tokens h t → h ≤ suc n
-    → read_unit (below_of n) tokens ≡ Some (t, [])
+    → read_unit (below_of n) tokens ≡ Found t []
 tree_read n tokens h t tree low = ap (read_unit (below_of n)) tree.tokens_are
     ∙ unit_read n t tree.is (omega (arith, tree.height_is))
 
-read_once : {A : Type 0} (t u : A) (x : Reads A) → x ≡ Some (t, []) → x ≡ Some (u, []) → t ≡ u
-read_once {A} t u x e f = (let pair : (t, []) ≡ (u, []) = cc in ap (λ (p : A × List Token). p.0) pair)
+read_once : {A : Type 0} (t u : A) (x : Reads A) → x ≡ Found t [] → x ≡ Found u [] → t ≡ u
+read_once {A} t u x e f = found_once t u [] [] (sym e ∙ f)
+  where
+    found_once : (t u : A) (ts us : List Token) → Found t ts ≡ Found u us → t ≡ u
+    found_once t u ts us g = cc
 
 -- a list of tokens has one raw tree at most
 pub one_tree : (tokens : List Token) (g h : ℕ) (t u : List ExternalTree) → Tree tokens g t → Tree tokens h u → (g ≡ h)

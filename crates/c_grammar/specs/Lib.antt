@@ -4,5 +4,6 @@ pub mod Heads
 pub mod Reading
 pub mod DeclarationReading
 pub mod StatementReading
+pub mod Laws
 pub mod Faults
 pub mod Worked

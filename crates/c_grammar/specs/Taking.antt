@@ -25,7 +25,7 @@ use Rattle.c_syntax.specs.declared.expression.Specifier.{Specifier}
 use Rattle.c_syntax.specs.declared.expression.TextPiece.{TextPiece}
 use Rattle.c_syntax.specs.Expressions.{Star}
 use Rattle.c_syntax.specs.ExpressionTokens.{binary_level}
-use Rattle.c_grammar.specs.Chains.{Reads}
+use Rattle.c_grammar.specs.Chains.{Takes, Reads, needed}
 
 -- ---- kinds of token
 
@@ -116,34 +116,44 @@ at_level k (Some op) = if nat_eq (binary_level op) k then Some op else None
 
 -- ---- one token
 
-abbrev pub taken : {A : Type 0} → Option A → Span → List Token → Reads (A × Span)
+abbrev pub taken : {A : Type 0} → Option A → Span → List Token → Takes (A × Span)
 taken None at ts = None
 taken (Some a) at ts = Some ((a, at), ts)
 
 -- the token at the front, where it stands for something
-abbrev pub take_by : {A : Type 0} → (TokenKind → Option A) → List Token → Reads (A × Span)
+abbrev pub take_by : {A : Type 0} → (TokenKind → Option A) → List Token → Takes (A × Span)
 take_by table [] = None
 take_by table (t ∷ ts) = taken (table t.kind) t.at ts
 
-abbrev pub take_unary : List Token → Reads (UnaryOp × Span)
+abbrev pub take_unary : List Token → Takes (UnaryOp × Span)
 take_unary ts = take_by (of_mark unary_of_mark) ts
 
-abbrev pub take_step : List Token → Reads (StepOp × Span)
+abbrev pub take_step : List Token → Takes (StepOp × Span)
 take_step ts = take_by (of_mark step_of_mark) ts
 
-abbrev pub take_assign : List Token → Reads (AssignOp × Span)
+abbrev pub take_assign : List Token → Takes (AssignOp × Span)
 take_assign ts = take_by (of_mark assign_of_mark) ts
 
-abbrev pub take_binary : ℕ → List Token → Reads (BinaryOp × Span)
+abbrev pub take_binary : ℕ → List Token → Takes (BinaryOp × Span)
 take_binary k ts = take_by (λ kind. at_level k (of_mark binary_of_mark kind)) ts
 
-abbrev pub take_mark : Punct → List Token → Reads Span
+abbrev pub take_mark : Punct → List Token → Takes Span
 take_mark m [] = None
 take_mark m (t ∷ ts) = if is_mark m t.kind then Some (t.at, ts) else None
 
-abbrev pub take_word : Keyword → List Token → Reads Span
+abbrev pub take_word : Keyword → List Token → Takes Span
 take_word w [] = None
 take_word w (t ∷ ts) = if is_word w t.kind then Some (t.at, ts) else None
+
+-- ---- one token that has to come
+
+-- this mark, which has to come
+abbrev pub read_mark : Punct → List Token → Reads Span
+read_mark m ts = needed ts (take_mark m ts)
+
+-- this word, which has to come
+abbrev pub read_word : Keyword → List Token → Reads Span
+read_word w ts = needed ts (take_word w ts)
 
 -- ---- rows of tokens
 
@@ -174,7 +184,7 @@ abbrev pub take_consts : List Token → List Span × List Token
 take_consts [] = ([], [])
 take_consts (t ∷ ts) = if is_word words.Const t.kind then with_front t.at (take_consts ts) else ([], t ∷ ts)
 
-abbrev pub pointer_from : Reads Span → List Token → Option Star × List Token
+abbrev pub pointer_from : Takes Span → List Token → Option Star × List Token
 pointer_from None ts = (None, ts)
 pointer_from (Some (star, us)) ts = (let r = take_consts us in (Some (record { star = star; consts = r.0 }), r.1))
 

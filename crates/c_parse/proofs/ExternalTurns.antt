@@ -1,27 +1,33 @@
 -- What the turns of the loop over external declarations read in all.
-use Rattle.std.proofs.Common.{◌≡◌, ◌<◌, ◌==◌, true, false, List, [], ◌∷◌, ◌++◌, map, length, Some, None, refl, subst}
-use Rattle.std.proofs.Common.{arith}
+use Rattle.std.proofs.Common.{◌≡◌, ◌<◌, ◌==◌, true, false, List, [], ◌∷◌, ◌++◌, map, length, Bool, Option, Some, None, refl, subst}
+use Rattle.std.proofs.Common.{◌⊎◌, inl, inr, is_some, arith}
+use Rattle.pcc_base.specs.declared.span.Span.{Span}
+use Rattle.c_lex.specs.declared.token.Punct.TheVariants as marks
+use Rattle.c_syntax.specs.declared.expression.Specifier.{Specifier}
+use Rattle.c_syntax.specs.Declarations.{DeclaratorTree}
 use Rattle.std.proofs.lemmas.Bool.{eqb-true}
-use Rattle.pcc_base.specs.declared.refusal.Refusal.{Refusal}
-use Rattle.pcc_base.specs.declared.refusal.Refusal.TheVariants.{Fault, Limit, NoMemory}
 use Rattle.c_lex.specs.declared.token.Token.{Token}
 use Rattle.c_syntax.specs.declared.unit.External.{External}
-use Rattle.c_syntax.specs.Statements.{ExternalTree, external_of}
-use Rattle.c_grammar.specs.Chains.{Done, Fails, Goes, Reads}
+use Rattle.c_syntax.specs.Statements.{ExternalTree, DeclaredTree, external_of}
+use Rattle.c_grammar.specs.Chains.{Done, Fails, Goes, Takes, Reads, Found, Faults, then_read}
 use Rattle.c_grammar.proofs.Chains.{Continues, continues_goes, continues_done, continues_fails}
-use Rattle.c_grammar.specs.StatementReading.{Below, read_external, unit_step}
+use Rattle.c_grammar.specs.StatementReading.{Below, external_behind, external_from, has_parameters, read_external, unit_step}
+use Rattle.c_grammar.specs.DeclarationReading.{declaration_behind}
+use Rattle.c_grammar.specs.Taking.{take_mark}
 use Rattle.c_parse_expressions.specs.Readings.{Refused}
+use Rattle.c_parse_expressions.specs.declared.parse_error.ParseError.{ParseError}
+use Rattle.c_parse_expressions.specs.declared.parse_error.ParseError.TheVariants.{Fault, NoMemory}
 use Rattle.c_parse.proofs.Listing.{map_push}
 
 goes_at : (b : Below) (a : List ExternalTree) (ts : List Token) (e : ExternalTree) (us : List Token) → (length ts == 0)
-    ≡ false → read_external b ts ≡ Some (e, us) → unit_step b a ts ≡ Goes (a ++ e ∷ []) us
+    ≡ false → read_external b ts ≡ Found e us → unit_step b a ts ≡ Goes (a ++ e ∷ []) us
 goes_at b a [] e us some r = absurd (let wrong : true ≡ false = some in cc)
 goes_at b a (t ∷ ts) e us some r = rw r refl
 
-fails_at : (b : Below) (a : List ExternalTree) (ts : List Token) → (length ts == 0) ≡ false → read_external b ts ≡ None
-    → unit_step b a ts ≡ Fails
-fails_at b a [] some r = absurd (let wrong : true ≡ false = some in cc)
-fails_at b a (t ∷ ts) some r = rw r refl
+fails_at : (b : Below) (a : List ExternalTree) (ts : List Token) (deep : Bool) (us : List Token) → (length ts == 0) ≡ false
+    → read_external b ts ≡ Faults deep us → unit_step b a ts ≡ Fails deep us
+fails_at b a [] deep us some r = absurd (let wrong : true ≡ false = some in cc)
+fails_at b a (t ∷ ts) deep us some r = rw r refl
 
 empty_is : (ts : List Token) → (length ts == 0) ≡ true → ts ≡ []
 empty_is [] e = refl
@@ -31,7 +37,7 @@ empty_is (t ∷ ts) e = absurd (omega (arith, eqb-true (length (t ∷ ts)) 0 e))
 pub unit_more : (b : Below) (out : Reads (List ExternalTree)) (xs ys : List External) (x : External)
     (ts us : List Token) →
     Continues (unit_step b) (map external_of xs) ts out → (length ts == 0) ≡ false → read_external b ts
-    ≡ Some (external_of x, us) → ys ≡ xs ++ x ∷ [] → length us < length ts →
+    ≡ Found (external_of x) us → ys ≡ xs ++ x ∷ [] → length us < length ts →
     Continues (unit_step b) (map external_of ys) us out
 unit_more b out xs ys x ts us before some r g less =
     (let goes = goes_at b (map external_of xs) ts (external_of x) us some r in
@@ -40,16 +46,32 @@ unit_more b out xs ys x ts us before some r g less =
     (continues_goes (unit_step b) _ _ ts us out before goes less))
 
 -- an external declaration that is refused
-pub unit_refused : (b : Below) (a : List ExternalTree) (ts : List Token) (out : Reads (List ExternalTree)) (e : Refusal)
+pub unit_refused : (b : Below) (a : List ExternalTree) (ts : List Token) (out : Reads (List ExternalTree)) (e : ParseError)
     →
     Continues (unit_step b) a ts out → (length ts == 0) ≡ false → Refused (read_external b ts) e → Refused out e
-unit_refused b a ts out (Fault fault) before some r =
-    continues_fails (unit_step b) a ts out before (fails_at b a ts some r)
-unit_refused b a ts out (Limit limit) before some r = r
+unit_refused b a ts out (Fault deep at) before some r = (
+  r.0,
+  continues_fails (unit_step b) a ts out deep r.0 before (fails_at b a ts deep r.0 some r.1),
+  r.2,
+)
 unit_refused b a ts out NoMemory before some r = tt
 
 -- the end of the tokens
 pub unit_last : (b : Below) (a : List ExternalTree) (ts : List Token) (out : Reads (List ExternalTree))
-    → Continues (unit_step b) a ts out → (length ts == 0) ≡ true → out ≡ Some (a, ts)
+    → Continues (unit_step b) a ts out → (length ts == 0) ≡ true → out ≡ Found a ts
 unit_last b a ts out before e =
     (let done : unit_step b a ts ≡ Done = rw (empty_is ts e) refl in continues_done (unit_step b) a ts out before done)
+
+no_function : (b : Below) (ss : List Specifier) (d : DeclaratorTree) (f : Bool) (open_brace : Takes Span)
+    (ts : List Token) → (f ≡ false) ⊎ (is_some open_brace ≡ false) → external_from b ss d f open_brace ts
+    ≡ then_read (declaration_behind b.exprs ss d ts) (λ x us. Found (DeclaredTree x) us)
+no_function b ss d false open_brace ts e = refl
+no_function b ss d true None ts e = refl
+no_function b ss d true (Some o) ts (inl e) = absurd (let wrong : true ≡ false = e in cc)
+no_function b ss d true (Some o) ts (inr e) = absurd (let wrong : true ≡ false = e in cc)
+
+-- what is no function with a body is a declaration
+pub declared_is : (b : Below) (ss : List Specifier) (d : DeclaratorTree) (ts : List Token)
+    → (has_parameters d.part ≡ false) ⊎ (is_some (take_mark marks.LeftBrace ts) ≡ false) → external_behind b ss d ts
+    ≡ then_read (declaration_behind b.exprs ss d ts) (λ x us. Found (DeclaredTree x) us)
+declared_is b ss d ts e = no_function b ss d (has_parameters d.part) (take_mark marks.LeftBrace ts) ts e

@@ -1,6 +1,7 @@
 pub mod Listing
 pub mod Below
 pub mod Parted
+pub mod Initial
 pub mod Rows
 pub mod Inside
 pub mod Passed

@@ -1,18 +1,17 @@
--- Why a list of tokens has no raw tree of height at most 256, and where.
-use Rattle.std.specs.Prelude.{◌≡◌, ◌≤◌, ℕ, Bool, true, false, List, [], ◌∷◌, ◌++◌, ⊤}
+-- Why a list of tokens has no raw tree of height at most 256, and where: the place is exact.
+use Rattle.std.specs.Prelude.{◌≡◌, Bool, true, false, List, [], ◌∷◌, ◌++◌, ⊤}
 use Rattle.pcc_base.specs.declared.span.Span.{Span}
 use Rattle.pcc_base.specs.declared.keyword.Keyword.{Keyword}
 use Rattle.pcc_base.specs.declared.keyword.Keyword.TheVariants as words
 use Rattle.pcc_base.specs.declared.fault.FaultKind.{FaultKind}
-use Rattle.pcc_base.specs.declared.fault.FaultKind.TheVariants.{Syntax, TooDeep, Unsupported}
+use Rattle.pcc_base.specs.declared.fault.FaultKind.TheVariants.{Unsupported}
 use Rattle.pcc_base.specs.declared.refusal.Refusal.{Refusal}
 use Rattle.pcc_base.specs.declared.refusal.Refusal.TheVariants.{Fault, Limit, NoMemory}
 use Rattle.c_lex.specs.declared.token.Token.{Token}
 use Rattle.c_lex.specs.declared.token.TokenKind.{TokenKind}
 use Rattle.c_lex.specs.declared.token.TokenKind.TheVariants as kinds
 use Rattle.c_syntax.specs.Marks.{word}
-use Rattle.c_syntax.specs.Statements.{ExternalTree}
-use Rattle.c_syntax.specs.Grammar.{Tree}
+use Rattle.c_grammar.specs.Faults.{FaultAt}
 
 -- a keyword of C99 (6.4.1) that no rule of the grammar uses
 abbrev pub is_outside : Keyword → Bool
@@ -70,20 +69,25 @@ FirstUnsupported tokens keyword at =
     (before : List Token) × (after : List Token) × NoneUnsupported before × (is_outside keyword ≡ true)
     × (tokens ≡ before ++ word keyword at ∷ after)
 
--- the tokens have no raw tree of height at most 256
-abbrev pub NoTree : List Token → Type 0
-NoTree tokens = (h : ℕ) (t : List ExternalTree) → h ≤ 256 → Tree tokens h t → ⊥
+-- the place of the next token, or the end where there is none
+abbrev pub next_place : List Token → Span → Span
+next_place [] end = end
+next_place (t ∷ ts) end = t.at
 
--- a fault of this kind at this place: the first keyword left out of the language; without such a keyword,
--- Syntax or TooDeep where there is no tree
-abbrev pub IsFaulty : List Token → FaultKind → Span → Type 0
-IsFaulty tokens (Unsupported keyword) at = FirstUnsupported tokens keyword at
-IsFaulty tokens Syntax at = NoneUnsupported tokens × NoTree tokens
-IsFaulty tokens TooDeep at = NoneUnsupported tokens × NoTree tokens
-IsFaulty tokens _ at = ⊥
+-- the fault of tokens without a raw tree of height at most 256 is of this kind, and stands at this place
+abbrev pub FailsAt : List Token → Span → FaultKind → Span → Type 0
+FailsAt tokens end kind at =
+    (before : List Token) × (rest : List Token) × (tokens ≡ before ++ rest) × FaultAt 256 kind before rest
+    × (at ≡ next_place rest end)
+
+-- a fault of this kind at this place: the first keyword left out of the language; without such a keyword, the fault of
+-- the tokens by the grammar
+abbrev pub IsFaulty : List Token → Span → FaultKind → Span → Type 0
+IsFaulty tokens end (Unsupported keyword) at = FirstUnsupported tokens keyword at
+IsFaulty tokens end kind at = NoneUnsupported tokens × FailsAt tokens end kind at
 
 -- why a list of tokens gives no raw tree
-abbrev pub IsRefused : List Token → Refusal → Type 0
-IsRefused tokens (Fault fault) = IsFaulty tokens fault.kind fault.at
-IsRefused tokens (Limit limit) = ⊥
-IsRefused tokens NoMemory = ⊤
+abbrev pub IsRefused : List Token → Span → Refusal → Type 0
+IsRefused tokens end (Fault fault) = IsFaulty tokens end fault.kind fault.at
+IsRefused tokens end (Limit limit) = ⊥
+IsRefused tokens end NoMemory = ⊤

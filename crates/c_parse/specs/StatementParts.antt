@@ -1,9 +1,9 @@
 -- What the parser's functions answer for a part of a statement, by the readers of the grammar.
 use Rattle.std.specs.Global.{Box}
-use Rattle.std.specs.Prelude.{◌≡◌, ℕ, ◌-◌, ◌<◌, List, [], ◌∷◌, ◌++◌, length, map, Option, Some, None, Result, Ok, Err}
+use Rattle.std.specs.Prelude.{◌≡◌, ℕ, ◌-◌, ◌<◌, Bool, false, List, [], ◌∷◌, ◌++◌, length, map, Option, Some, None}
+use Rattle.std.specs.Prelude.{Result, Ok, Err}
 use Rattle.pcc_base.specs.declared.span.Span.{Span}
 use Rattle.pcc_base.specs.declared.keyword.Keyword.TheVariants as words
-use Rattle.pcc_base.specs.declared.refusal.Refusal.{Refusal}
 use Rattle.c_lex.specs.declared.token.Token.{Token}
 use Rattle.c_lex.specs.declared.token.Punct.{Punct}
 use Rattle.c_lex.specs.declared.token.Punct.TheVariants as marks
@@ -13,13 +13,15 @@ use Rattle.c_syntax.specs.declared.statement.Statement.{Statement}
 use Rattle.c_syntax.specs.Expressions.{Expr, expr_of}
 use Rattle.c_syntax.specs.Declarations.{DeclarationTree, declaration_of, maybe_expr_of}
 use Rattle.c_syntax.specs.Statements.{LabelTree, label_of, Stmt, For, ForDeclaration, stmt_of}
-use Rattle.c_grammar.specs.Chains.{Done, Goes, Reads, then_read}
-use Rattle.c_grammar.specs.Taking.{take_mark, take_word, take_specifiers}
+use Rattle.c_grammar.specs.Chains.{Done, Goes, Reads, Found, then_read}
+use Rattle.c_grammar.specs.Heads.{begins_item}
+use Rattle.c_grammar.specs.Taking.{read_mark, read_word, take_specifiers}
 use Rattle.c_grammar.specs.Reading.{Reader, readers}
 use Rattle.c_grammar.specs.DeclarationReading.{maybe_before}
 use Rattle.c_grammar.specs.StatementReading as reading
 use Rattle.c_grammar.specs.StatementReading.{StmtReader, Below, below_of, label_step, read_condition, read_until}
 use Rattle.c_parse_expressions.specs.Readings.{RefusedStep}
+use Rattle.c_parse_expressions.specs.declared.parse_error.ParseError.{ParseError}
 use Rattle.c_parse.specs.declared.statement_parts.Condition.{Condition}
 use Rattle.c_parse.specs.declared.statement_parts.Clause.{Clause}
 use Rattle.c_parse.specs.declared.statement_parts.DoTail.{DoTail}
@@ -46,6 +48,11 @@ fields_of n =
 abbrev pub below_node : ℕ → Below
 below_node height = fields_of (height - 1)
 
+-- whether a declaration or a statement may begin with the next token
+abbrev pub front_begins_item : List Token → Bool
+front_begins_item [] = false
+front_begins_item (t ∷ ts) = begins_item t.kind
+
 -- ---- parts of the rules, as the grammar's readers read them
 
 -- expression? and a mark behind it
@@ -54,7 +61,7 @@ ClauseTree = Option Expr × Span
 
 abbrev pub read_clause : Below → Punct → List Token → Reads ClauseTree
 read_clause b m ts = then_read (maybe_before b.exprs.expression m ts)
-    (λ e us. then_read (take_mark m us) (λ at vs. Some ((e, at), vs)))
+    (λ e us. then_read (read_mark m us) (λ at vs. Found (e, at) vs))
 
 abbrev pub DoTailTree : Type 0
 DoTailTree = Span × reading.Condition × Span
@@ -62,9 +69,9 @@ DoTailTree = Span × reading.Condition × Span
 -- 'while' '(' expression ')' ';'
 abbrev pub read_do_tail : Below → List Token → Reads DoTailTree
 read_do_tail b ts =
-    then_read (take_word words.While ts) (λ until us.
+    then_read (read_word words.While ts) (λ until us.
     then_read (read_condition b us) (λ k vs.
-    then_read (take_mark marks.Semicolon vs) (λ semicolon ws. Some ((until, k, semicolon), ws))))
+    then_read (read_mark marks.Semicolon vs) (λ semicolon ws. Found (until, k, semicolon) ws)))
 
 abbrev pub ForTestsTree : Type 0
 ForTestsTree = ClauseTree × ClauseTree
@@ -72,15 +79,15 @@ ForTestsTree = ClauseTree × ClauseTree
 -- expression? ';' expression? ')'
 abbrev pub read_for_tests : Below → List Token → Reads ForTestsTree
 read_for_tests b ts = then_read (read_clause b marks.Semicolon ts)
-    (λ k us. then_read (read_clause b marks.RightParen us) (λ step vs. Some ((k, step), vs)))
+    (λ k us. then_read (read_clause b marks.RightParen us) (λ step vs. Found (k, step) vs))
 
 pub data ForStartTree : Type 0 where
   Expressed : (clause : ClauseTree) → ForStartTree
   Declares : (declaration : DeclarationTree) → ForStartTree
 
 abbrev pub start_with : Below → List Specifier → List Token → Reads ForStartTree
-start_with b [] ts = then_read (read_clause b marks.Semicolon ts) (λ k us. Some (Expressed k, us))
-start_with b (s ∷ ss) ts = then_read (b.declaration ts) (λ d us. Some (Declares d, us))
+start_with b [] ts = then_read (read_clause b marks.Semicolon ts) (λ k us. Found (Expressed k) us)
+start_with b (s ∷ ss) ts = then_read (b.declaration ts) (λ d us. Found (Declares d) us)
 
 -- expression? ';' | declaration
 abbrev pub read_for_start : Below → List Token → Reads ForStartTree
@@ -92,9 +99,9 @@ ForHeadTree = Span × ForStartTree × ForTestsTree
 -- '(' (expression? ';' | declaration) expression? ';' expression? ')'
 abbrev pub read_for_head : Below → List Token → Reads ForHeadTree
 read_for_head b ts =
-    then_read (take_mark marks.LeftParen ts) (λ o us.
+    then_read (read_mark marks.LeftParen ts) (λ o us.
     then_read (read_for_start b us) (λ start vs.
-    then_read (read_for_tests b vs) (λ tests ws. Some ((o, start, tests), ws))))
+    then_read (read_for_tests b vs) (λ tests ws. Found (o, start, tests) ws)))
 
 abbrev pub for_of : Span → Span → ForStartTree → ForTestsTree → Stmt → Stmt
 for_of at o (Expressed k) t s = For at o k.0 k.1 t.0.0 t.0.1 t.1.0 t.1.1 s
@@ -106,7 +113,7 @@ SwitchHeadTree = reading.Condition × Span
 -- '(' expression ')' '{'
 abbrev pub read_switch_head : Below → List Token → Reads SwitchHeadTree
 read_switch_head b ts = then_read (read_condition b ts)
-    (λ k us. then_read (take_mark marks.LeftBrace us) (λ begin vs. Some ((k, begin), vs)))
+    (λ k us. then_read (read_mark marks.LeftBrace us) (λ begin vs. Found (k, begin) vs))
 
 abbrev pub ClosedTree : Type 0
 ClosedTree = List Stmt × Span
@@ -114,7 +121,7 @@ ClosedTree = List Stmt × Span
 -- statements and the `}` behind them
 abbrev pub read_closed : StmtReader → List Token → Reads ClosedTree
 read_closed read ts = then_read (read_until read ts)
-    (λ ss us. then_read (take_mark marks.RightBrace us) (λ c vs. Some ((ss, c), vs)))
+    (λ ss us. then_read (read_mark marks.RightBrace us) (λ c vs. Found (ss, c) vs))
 
 -- ---- what the parts stand for
 
@@ -153,7 +160,7 @@ abbrev pub closed_of : StatementList → ClosedTree
 closed_of l = (statements_of l, l.close)
 
 -- one label more, or the end of the labels
-abbrev pub IsLabelTurn : Reader → List Token → List Token → Result (Option Label) Refusal → Type 0
+abbrev pub IsLabelTurn : Reader → List Token → List Token → Result (Option Label) ParseError → Type 0
 IsLabelTurn read old new (Ok (Some l)) =
     ((so_far : List LabelTree) → label_step read so_far old ≡ Goes (so_far ++ label_of l ∷ []) new)
     × (length new < length old)

@@ -12,16 +12,15 @@ use crate::initialisers::maybe_value;
 use crate::lists::ItemList;
 use crate::optional_parts::some_specifiers;
 use c_lex::Punct;
-use c_parse_expressions::{Cursor, Height, push};
+use c_parse_expressions::{Cursor, Height, ParseError, push};
 use c_syntax::{Declaration, Declarator, Item, Specifier};
-use pcc_base::{FaultKind, Refusal};
 
 /// `item : declarator ('=' initialiser)?`, behind the declarator
 fn item_behind(
     cursor: &mut Cursor<'_>,
     declarator: Declarator,
     height: Height,
-) -> Result<Item, Refusal>
+) -> Result<Item, ParseError>
     ensures { IsPartRead item_of (item_behind (below height.levels) (declarator_of declarator)) cursor.old.rest.now
         cursor.new.rest.now result }
 {
@@ -30,15 +29,15 @@ fn item_behind(
             declarator,
             initialiser,
         }),
-        Err(refusal) => {
+        Err(error) => {
             drop(declarator);
-            Err(refusal)
+            Err(error)
         }
     }
 }
 
 /// `item : declarator ('=' initialiser)?`
-fn item(cursor: &mut Cursor<'_>, height: Height) -> Result<Item, Refusal>
+fn item(cursor: &mut Cursor<'_>, height: Height) -> Result<Item, ParseError>
     ensures { IsPartRead item_of (read_item (below height.levels)) cursor.old.rest.now
         cursor.new.rest.now result }
 {
@@ -47,7 +46,11 @@ fn item(cursor: &mut Cursor<'_>, height: Height) -> Result<Item, Refusal>
 }
 
 /// `(',' item)*`, behind the first item
-fn items_behind(cursor: &mut Cursor<'_>, first: Item, height: Height) -> Result<ItemList, Refusal>
+fn items_behind(
+    cursor: &mut Cursor<'_>,
+    first: Item,
+    height: Height,
+) -> Result<ItemList, ParseError>
     ensures { IsPartRead items_listed (read_more (read_item (below height.levels)) (item_of first)) cursor.old.rest.now
         cursor.new.rest.now result }
 {
@@ -68,7 +71,7 @@ pub fn declaration_behind(
     specifiers: Vec<Specifier>,
     declarator: Declarator,
     height: Height,
-) -> Result<Declaration, Refusal>
+) -> Result<Declaration, ParseError>
     ensures { IsRead declaration_of
         (declaration_behind (below height.levels) specifiers.items (declarator_of declarator))
         cursor.old.rest.now cursor.new.rest.now result }
@@ -76,7 +79,7 @@ pub fn declaration_behind(
     let first = item_behind(cursor, declarator, height)?;
     let list = items_behind(cursor, first, height)?;
     let Some(semicolon) = cursor.take_mark(Punct::Semicolon) else {
-        return Err(cursor.refusal(FaultKind::Syntax));
+        return Err(cursor.fault());
     };
     Ok(Declaration {
         specifiers,
@@ -87,7 +90,7 @@ pub fn declaration_behind(
 }
 
 /// `declaration : specifiers item (',' item)* ';'` (C99 6.7)
-pub fn declaration(cursor: &mut Cursor<'_>, height: Height) -> Result<Declaration, Refusal>
+pub fn declaration(cursor: &mut Cursor<'_>, height: Height) -> Result<Declaration, ParseError>
     ensures { IsRead declaration_of (read_declaration (below height.levels)) cursor.old.rest.now
         cursor.new.rest.now result }
 {

@@ -10,12 +10,12 @@ ghost use Rattle.c_parse.specs.DeclarationParts.{parameters_listed};
 use crate::lists::ParameterList;
 use crate::optional_parts::{array_behind, maybe_array, some_specifiers, take_name};
 use c_lex::Punct;
-use c_parse_expressions::{Cursor, Height, push};
+use c_parse_expressions::{Cursor, Height, ParseError, push};
 use c_syntax::{Declarator, DeclaratorPart, Parameter, ParametersPart};
-use pcc_base::{FaultKind, Refusal, Span};
+use pcc_base::Span;
 
 /// `parameter : specifiers pointer? ident? ('[' conditional? ']')?`
-fn parameter(cursor: &mut Cursor<'_>, height: Height) -> Result<Parameter, Refusal>
+fn parameter(cursor: &mut Cursor<'_>, height: Height) -> Result<Parameter, ParseError>
     ensures { IsRead parameter_of (read_parameter (below height.levels)) cursor.old.rest.now
         cursor.new.rest.now result }
 {
@@ -32,7 +32,7 @@ fn parameter(cursor: &mut Cursor<'_>, height: Height) -> Result<Parameter, Refus
 }
 
 /// `parameters?`, before a `)`, with `parameters : parameter (',' parameter)*`
-fn parameters(cursor: &mut Cursor<'_>, height: Height) -> Result<ParameterList, Refusal>
+fn parameters(cursor: &mut Cursor<'_>, height: Height) -> Result<ParameterList, ParseError>
     ensures { IsPartRead parameters_listed (read_parameters (below height.levels)) cursor.old.rest.now
         cursor.new.rest.now result }
 {
@@ -56,13 +56,13 @@ fn parameters_behind(
     cursor: &mut Cursor<'_>,
     opening: Span,
     height: Height,
-) -> Result<ParametersPart, Refusal>
+) -> Result<ParametersPart, ParseError>
     ensures { IsRead parameters_of (parameters_behind (below height.levels) opening) cursor.old.rest.now
         cursor.new.rest.now result }
 {
     let list = parameters(cursor, height)?;
     let Some(close) = cursor.take_mark(Punct::RightParen) else {
-        return Err(cursor.refusal(FaultKind::Syntax));
+        return Err(cursor.fault());
     };
     Ok(ParametersPart {
         opening,
@@ -73,7 +73,7 @@ fn parameters_behind(
 }
 
 /// `('[' conditional? ']' | '(' parameters? ')')?`
-fn part(cursor: &mut Cursor<'_>, height: Height) -> Result<DeclaratorPart, Refusal>
+fn part(cursor: &mut Cursor<'_>, height: Height) -> Result<DeclaratorPart, ParseError>
     ensures { IsPartRead part_of (read_part (below height.levels)) cursor.old.rest.now
         cursor.new.rest.now result }
 {
@@ -89,13 +89,13 @@ fn part(cursor: &mut Cursor<'_>, height: Height) -> Result<DeclaratorPart, Refus
 }
 
 /// `declarator : pointer? ident ('[' conditional? ']' | '(' parameters? ')')?`
-pub fn declarator(cursor: &mut Cursor<'_>, height: Height) -> Result<Declarator, Refusal>
+pub fn declarator(cursor: &mut Cursor<'_>, height: Height) -> Result<Declarator, ParseError>
     ensures { IsPartRead declarator_of (read_declarator (below height.levels)) cursor.old.rest.now
         cursor.new.rest.now result }
 {
     let pointer = cursor.take_pointer()?;
     let Some(name) = take_name(cursor)? else {
-        return Err(cursor.refusal(FaultKind::Syntax));
+        return Err(cursor.fault());
     };
     let part = part(cursor, height)?;
     Ok(Declarator {

@@ -1,10 +1,11 @@
 //! External declarations, and the unit of a file.
 
-ghost use Rattle.std.specs.Prelude.{◌≡◌, [], IfOk, Some};
-ghost use Rattle.c_grammar.specs.Chains.{then_read};
+ghost use Rattle.std.specs.Prelude.{◌≡◌, [], IfOk};
+ghost use Rattle.c_grammar.specs.Chains.{Found, then_read};
 ghost use Rattle.c_syntax.specs.Declarations.{declarator_of, part_of};
-ghost use Rattle.c_syntax.specs.Statements.{external_of, unit_of, FunctionTree};
-ghost use Rattle.c_grammar.specs.StatementReading.{has_parameters, read_external, read_unit};
+ghost use Rattle.c_syntax.specs.Statements.{external_of, unit_of, DeclaredTree, FunctionTree};
+ghost use Rattle.c_grammar.specs.StatementReading.{external_behind, has_parameters, read_external, read_unit};
+ghost use Rattle.c_grammar.specs.DeclarationReading.{declaration_behind};
 ghost use Rattle.c_parse_expressions.specs.Readings.{IsRead, IsPartRead};
 ghost use Rattle.c_parse.specs.StatementParts.{below_node};
 
@@ -13,9 +14,8 @@ use crate::declarators::declarator;
 use crate::optional_parts::some_specifiers;
 use crate::statements::statement_below;
 use c_lex::Punct;
-use c_parse_expressions::{Cursor, Height, push};
+use c_parse_expressions::{Cursor, Height, ParseError, push};
 use c_syntax::{Declarator, DeclaratorPart, External, RawUnit, Specifier};
-use pcc_base::Refusal;
 
 /// Whether a declarator with this part is a function's.
 fn is_function(part: &DeclaratorPart) -> bool
@@ -34,9 +34,9 @@ fn function_behind(
     specifiers: Vec<Specifier>,
     declarator: Declarator,
     height: Height,
-) -> Result<External, Refusal>
+) -> Result<External, ParseError>
     ensures { IsRead external_of (λ ts. then_read ((below_node height.levels).statement ts)
-        (λ body us. Some (FunctionTree specifiers.items (declarator_of declarator) body, us)))
+        (λ body us. Found (FunctionTree specifiers.items (declarator_of declarator) body) us))
         cursor.old.rest.now cursor.new.rest.now result }
 {
     match statement_below(cursor, height) {
@@ -45,30 +45,59 @@ fn function_behind(
             declarator,
             body,
         }),
-        Err(refusal) => {
+        Err(error) => {
             drop(declarator);
-            Err(refusal)
+            Err(error)
         }
     }
 }
 
+/// A declaration, behind its specifiers and its first declarator
+fn declared_behind(
+    cursor: &mut Cursor<'_>,
+    specifiers: Vec<Specifier>,
+    declarator: Declarator,
+    height: Height,
+) -> Result<External, ParseError>
+    ensures { IsRead external_of (λ ts. then_read
+        (declaration_behind (below_node height.levels).exprs specifiers.items (declarator_of declarator) ts)
+        (λ d us. Found (DeclaredTree d) us))
+        cursor.old.rest.now cursor.new.rest.now result }
+{
+    let declaration = declaration_behind(cursor, specifiers, declarator, height)?;
+    Ok(External::Declaration(declaration))
+}
+
+/// `block` behind the declarator of a function, or what else of a declaration stands behind its first declarator
+fn external_behind(
+    cursor: &mut Cursor<'_>,
+    specifiers: Vec<Specifier>,
+    declarator: Declarator,
+    height: Height,
+) -> Result<External, ParseError>
+    ensures { IsRead external_of
+        (external_behind (below_node height.levels) specifiers.items (declarator_of declarator))
+        cursor.old.rest.now cursor.new.rest.now result }
+{
+    if is_function(&declarator.part) && cursor.at_mark(Punct::LeftBrace) {
+        return function_behind(cursor, specifiers, declarator, height);
+    }
+    declared_behind(cursor, specifiers, declarator, height)
+}
+
 /// `external : specifiers pointer? ident '(' parameters? ')' block | declaration` (C99 6.9), in a unit with
 /// nodes of less than this height and such a declaration
-fn external(cursor: &mut Cursor<'_>, height: Height) -> Result<External, Refusal>
+fn external(cursor: &mut Cursor<'_>, height: Height) -> Result<External, ParseError>
     ensures { IsRead external_of (read_external (below_node height.levels)) cursor.old.rest.now
         cursor.new.rest.now result }
 {
     let specifiers = some_specifiers(cursor)?;
     let declarator = declarator(cursor, height)?;
-    if is_function(&declarator.part) && cursor.at_mark(Punct::LeftBrace) {
-        return function_behind(cursor, specifiers, declarator, height);
-    }
-    let declaration = declaration_behind(cursor, specifiers, declarator, height)?;
-    Ok(External::Declaration(declaration))
+    external_behind(cursor, specifiers, declarator, height)
 }
 
 /// `unit : external*`, to the end of the tokens, of at most this height
-pub(crate) fn unit(cursor: &mut Cursor<'_>, height: Height) -> Result<RawUnit, Refusal>
+pub(crate) fn unit(cursor: &mut Cursor<'_>, height: Height) -> Result<RawUnit, ParseError>
     ensures reads { IsPartRead unit_of (read_unit (below_node height.levels)) cursor.old.rest.now
         cursor.new.rest.now result }
     ensures whole { IfOk result (λ _. cursor.new.rest.now ≡ []) }

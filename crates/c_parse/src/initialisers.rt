@@ -1,94 +1,99 @@
 //! Initialisers.
 
-ghost use Rattle.std.specs.Prelude.{◌≡◌, ◌<◌, length, IfSome, IfNone, Some, None};
-ghost use Rattle.c_grammar.specs.Chains.{Done};
+ghost use Rattle.std.specs.Prelude.{◌≡◌, None};
 ghost use Rattle.c_syntax.specs.Declarations.{initialiser_of, value_of};
-ghost use Rattle.c_grammar.specs.Reading.{Readers, Values as ReadValues};
+ghost use Rattle.c_grammar.specs.Reading.{readers};
 ghost use Rattle.c_grammar.specs.Taking.{take_mark};
-ghost use Rattle.c_grammar.specs.DeclarationReading.{brace_step, read_initialiser, value_from};
+ghost use Rattle.c_grammar.specs.DeclarationReading.{brace_step, read_values, read_initialiser, value_from};
 ghost use Rattle.c_parse_expressions.specs.Readings.{IsRead, IsPartRead};
-ghost use Rattle.c_parse_expressions.specs.ExpressionReadings.{IsValuesTurn, AreValues, below};
+ghost use Rattle.c_parse_expressions.specs.ExpressionReadings.{below};
 ghost use Rattle.c_parse_expressions.specs.Values.{values_of, height_of_values};
-ghost use Rattle.c_parse.specs.Braces.{read_values};
+ghost use Rattle.c_parse.specs.Braces.{IsBraceTurn, braced_of};
 
 use c_lex::Punct;
-use c_parse_expressions::{
-    Cursor, Height, Rule, Values, ValuesTurn, one_more, one_value, tree_below,
-};
+use c_parse_expressions::{Cursor, Height, ParseError, Rule, Values, one_more, one_value, tree_of};
 use c_syntax::{Initialiser, InitialiserPart};
-use pcc_base::{FaultKind, Refusal, Span};
+use pcc_base::Span;
 
-/// Takes a `,` that is not the last before a `}`.
-fn take_separator(cursor: &mut Cursor<'_>) -> Option<Span>
-    ensures some { IfSome result (λ comma.
-        (take_mark Punct.Comma cursor.old.rest.now ≡ Some (comma, cursor.new.rest.now))
-        × (take_mark Punct.RightBrace cursor.new.rest.now ≡ None)) }
-    ensures none { IfNone result ((b : Readers) (so_far : ReadValues)
-        → brace_step b so_far cursor.old.rest.now ≡ Done) }
-    ensures stays { IfNone result (cursor.new.rest.now ≡ cursor.old.rest.now) }
-    ensures shorter { IfSome result (λ _. length cursor.new.rest.now < length cursor.old.rest.now) }
-{
-    let before = cursor.rest;
-    let comma = cursor.take_mark(Punct::Comma)?;
-    if cursor.at_mark(Punct::RightBrace) {
-        cursor.rest = before;
-        return None;
-    }
-    Some(comma)
+/// Values in braces, and the comma behind the last of them.
+#[derive(Drop)]
+struct Braced {
+    values: Values,
+    trailing: Option<Span>,
 }
 
-/// `',' assignment`, behind values in braces
+/// One turn of the loop over values in braces: one value more, or the comma that is the last, or the end.
+#[derive(Drop)]
+enum BraceTurn {
+    More(Values),
+    Trailing(Values, Span),
+    Last(Values),
+}
+
+/// `',' assignment`, behind values in braces, or a `,` before the `}`; each value of at most this height
 fn brace_value(
     cursor: &mut Cursor<'_>,
     values: Values,
-    height: Height,
-) -> Result<ValuesTurn, Refusal>
-    requires values { values.height ≡ height_of_values values }
-    requires within { values.height < height.levels }
-    ensures { IsValuesTurn height.levels (brace_step (below height.levels) (values_of values) cursor.old.rest.now)
+    lower: Height,
+) -> Result<BraceTurn, ParseError>
+    requires { values.height ≡ height_of_values values }
+    ensures { IsBraceTurn (brace_step (readers lower.levels) (values_of values, None) cursor.old.rest.now)
         (values_of values) cursor.old.rest.now cursor.new.rest.now result }
 {
-    let Some(comma) = take_separator(cursor) else {
-        return Ok(ValuesTurn::LastValues(values));
+    let Some(comma) = cursor.take_mark(Punct::Comma) else {
+        return Ok(BraceTurn::Last(values));
     };
-    let next = tree_below(cursor, Rule::Assignment, height, comma)?;
-    let more = one_more(values, comma, next)?;
-    Ok(ValuesTurn::MoreValues(more))
+    if cursor.at_mark(Punct::RightBrace) {
+        return Ok(BraceTurn::Trailing(values, comma));
+    }
+    match tree_of(cursor, Rule::Assignment, lower) {
+        Ok(next) => Ok(BraceTurn::More(one_more(values, comma, next)?)),
+        Err(error) => Err(values.refused(error)),
+    }
 }
 
-/// `assignment (',' assignment)*`, in braces behind this `=`
-fn values(cursor: &mut Cursor<'_>, equal: Span, height: Height) -> Result<Values, Refusal>
-    ensures { AreValues height.levels (read_values (below height.levels)) cursor.old.rest.now
-        cursor.new.rest.now result }
+/// `assignment (',' assignment)* ','?`, in braces, each of at most this height
+fn braced_values(cursor: &mut Cursor<'_>, lower: Height) -> Result<Braced, ParseError>
+    ensures { IsRead braced_of (read_values (readers lower.levels)) cursor.old.rest.now cursor.new.rest.now result }
 {
-    let first = tree_below(cursor, Rule::Assignment, height, equal)?;
+    let first = tree_of(cursor, Rule::Assignment, lower)?;
     let mut values = one_value(cursor.alloc, first)?;
     'values: loop {
-        match brace_value(cursor, values, height)? {
-            ValuesTurn::MoreValues(more) => values = more,
-            ValuesTurn::LastValues(last) => return Ok(last),
+        match brace_value(cursor, values, lower)? {
+            BraceTurn::More(more) => values = more,
+            BraceTurn::Trailing(values, comma) => {
+                return Ok(Braced {
+                    values,
+                    trailing: Some(comma),
+                });
+            }
+            BraceTurn::Last(values) => {
+                return Ok(Braced {
+                    values,
+                    trailing: None,
+                });
+            }
         }
     }
 }
 
-/// `initialiser : assignment | '{' assignment (',' assignment)* ','? '}'`, behind this `=`
-fn initialiser(cursor: &mut Cursor<'_>, equal: Span, height: Height) -> Result<Initialiser, Refusal>
-    ensures { IsRead initialiser_of (read_initialiser (below height.levels)) cursor.old.rest.now
+/// `initialiser : assignment | '{' assignment (',' assignment)* ','? '}'`, of expressions of at most this height
+fn initialiser(cursor: &mut Cursor<'_>, lower: Height) -> Result<Initialiser, ParseError>
+    ensures { IsRead initialiser_of (read_initialiser (readers lower.levels)) cursor.old.rest.now
         cursor.new.rest.now result }
 {
     let Some(opening) = cursor.take_mark(Punct::LeftBrace) else {
-        let found = tree_below(cursor, Rule::Assignment, height, equal)?;
+        let found = tree_of(cursor, Rule::Assignment, lower)?;
         return Ok(Initialiser::Single(found.tree));
     };
-    let list = values(cursor, equal, height)?;
-    let trailing = cursor.take_mark(Punct::Comma);
+    let Braced { values, trailing } = braced_values(cursor, lower)?;
     let Some(close) = cursor.take_mark(Punct::RightBrace) else {
-        return Err(cursor.refusal(FaultKind::Syntax));
+        return Err(values.refused(cursor.fault()));
     };
     Ok(Initialiser::List {
         opening,
-        values: list.values,
-        commas: list.commas,
+        values: values.values,
+        commas: values.commas,
         trailing,
         close,
     })
@@ -98,13 +103,14 @@ fn initialiser(cursor: &mut Cursor<'_>, equal: Span, height: Height) -> Result<I
 pub(crate) fn maybe_value(
     cursor: &mut Cursor<'_>,
     height: Height,
-) -> Result<Option<InitialiserPart>, Refusal>
+) -> Result<Option<InitialiserPart>, ParseError>
     ensures { IsPartRead value_of (λ ts. value_from (below height.levels) (take_mark Punct.Equal ts) ts)
         cursor.old.rest.now cursor.new.rest.now result }
 {
     let Some(equal) = cursor.take_mark(Punct::Equal) else {
         return Ok(None);
     };
-    let value = initialiser(cursor, equal, height)?;
+    let lower = height.below(equal)?;
+    let value = initialiser(cursor, lower)?;
     Ok(Some(InitialiserPart { equal, value }))
 }

@@ -9,32 +9,32 @@ ghost use Rattle.c_parse.specs.StatementParts.{below_node, boxed_of};
 use crate::nodes::{boxed, return_node, simple_node};
 use crate::statement_parts::take_clause;
 use c_lex::Punct;
-use c_parse_expressions::{Cursor, Height};
+use c_parse_expressions::{Cursor, Height, ParseError};
 use c_syntax::Statement;
-use pcc_base::{FaultKind, Keyword, Refusal, Span};
+use pcc_base::{Keyword, Span};
 
 /// `'break' ';'`, behind the word
-fn break_behind(cursor: &mut Cursor<'_>, at: Span) -> Result<Statement, Refusal>
+fn break_behind(cursor: &mut Cursor<'_>, at: Span) -> Result<Statement, ParseError>
     ensures { IsRead stmt_of (break_behind at) cursor.old.rest.now cursor.new.rest.now result }
 {
     let Some(semicolon) = cursor.take_mark(Punct::Semicolon) else {
-        return Err(cursor.refusal(FaultKind::Syntax));
+        return Err(cursor.fault());
     };
     Ok(Statement::Break(at, semicolon))
 }
 
 /// `'continue' ';'`, behind the word
-fn continue_behind(cursor: &mut Cursor<'_>, at: Span) -> Result<Statement, Refusal>
+fn continue_behind(cursor: &mut Cursor<'_>, at: Span) -> Result<Statement, ParseError>
     ensures { IsRead stmt_of (continue_behind at) cursor.old.rest.now cursor.new.rest.now result }
 {
     let Some(semicolon) = cursor.take_mark(Punct::Semicolon) else {
-        return Err(cursor.refusal(FaultKind::Syntax));
+        return Err(cursor.fault());
     };
     Ok(Statement::Continue(at, semicolon))
 }
 
 /// `'return' expression? ';'`, behind the word
-fn return_behind(cursor: &mut Cursor<'_>, at: Span, height: Height) -> Result<Statement, Refusal>
+fn return_behind(cursor: &mut Cursor<'_>, at: Span, height: Height) -> Result<Statement, ParseError>
     ensures { IsRead stmt_of (return_behind (below_node height.levels) at) cursor.old.rest.now
         cursor.new.rest.now result }
 {
@@ -43,7 +43,7 @@ fn return_behind(cursor: &mut Cursor<'_>, at: Span, height: Height) -> Result<St
 }
 
 /// `expression? ';'`
-fn simple(cursor: &mut Cursor<'_>, height: Height) -> Result<Statement, Refusal>
+fn simple(cursor: &mut Cursor<'_>, height: Height) -> Result<Statement, ParseError>
     ensures { IsRead stmt_of (read_simple (below_node height.levels)) cursor.old.rest.now cursor.new.rest.now result }
 {
     let clause = take_clause(cursor, Punct::Semicolon, height)?;
@@ -51,7 +51,7 @@ fn simple(cursor: &mut Cursor<'_>, height: Height) -> Result<Statement, Refusal>
 }
 
 /// `'break' ';' | 'continue' ';' | 'return' expression? ';' | expression? ';'`
-fn jump_or_simple(cursor: &mut Cursor<'_>, height: Height) -> Result<Statement, Refusal>
+fn jump_or_simple(cursor: &mut Cursor<'_>, height: Height) -> Result<Statement, ParseError>
     ensures { IsRead stmt_of
         (λ ts. or_break (below_node height.levels) (take_word Keyword.Break ts) ts)
         cursor.old.rest.now cursor.new.rest.now result }
@@ -73,7 +73,7 @@ fn jump_or_simple(cursor: &mut Cursor<'_>, height: Height) -> Result<Statement, 
 pub(crate) fn boxed_simple(
     cursor: &mut Cursor<'_>,
     height: Height,
-) -> Result<Box<Statement>, Refusal>
+) -> Result<Box<Statement>, ParseError>
     ensures { IsRead boxed_of
         (λ ts. or_break (below_node height.levels) (take_word Keyword.Break ts) ts)
         cursor.old.rest.now cursor.new.rest.now result }

@@ -9,9 +9,9 @@ ghost use Rattle.c_parse_expressions.specs.Rows.{IsRow};
 ghost use Rattle.c_parse.specs.DeclarationParts.{AreSpecifiers, NoSpecifiers};
 
 use c_lex::{Punct, TokenKind};
-use c_parse_expressions::{Cursor, Height, Rule, tree_of};
+use c_parse_expressions::{Cursor, Height, ParseError, Rule, tree_of};
 use c_syntax::{ArrayPart, Expression, Identifier, Specifier};
-use pcc_base::{FaultKind, NoMemory, Refusal, Span};
+use pcc_base::{NoMemory, Span};
 
 /// A tree of the rule, where this mark does not come at once.
 pub fn maybe(
@@ -19,7 +19,7 @@ pub fn maybe(
     rule: Rule,
     close: Punct,
     height: Height,
-) -> Result<Option<Box<Expression>>, Refusal>
+) -> Result<Option<Box<Expression>>, ParseError>
     requires rule { IsRule rule }
     ensures { IsPartRead maybe_expr_of (maybe_before (reader_of rule (below height.levels)) close) cursor.old.rest.now
         cursor.new.rest.now result }
@@ -35,13 +35,13 @@ pub fn maybe(
 }
 
 /// `specifiers : one or more of auto register static extern const void char short int signed`
-pub fn some_specifiers(cursor: &mut Cursor<'_>) -> Result<Vec<Specifier>, Refusal>
+pub fn some_specifiers(cursor: &mut Cursor<'_>) -> Result<Vec<Specifier>, ParseError>
     ensures ok { IfOk result (λ v. AreSpecifiers cursor.old.rest.now cursor.new.rest.now v.items) }
     ensures err { IfErr result (NoSpecifiers cursor.old.rest.now) }
     ensures shorter { IfOk result (λ _. length cursor.new.rest.now < length cursor.old.rest.now) }
 {
     if !cursor.at_specifier() {
-        return Err(cursor.refusal(FaultKind::Syntax));
+        return Err(cursor.fault());
     }
     Ok(cursor.take_specifiers()?)
 }
@@ -70,14 +70,14 @@ pub(crate) fn array_behind(
     cursor: &mut Cursor<'_>,
     opening: Span,
     height: Height,
-) -> Result<ArrayPart, Refusal>
+) -> Result<ArrayPart, ParseError>
     ensures { IsRead array_of (array_behind (below height.levels) opening) cursor.old.rest.now
         cursor.new.rest.now result }
 {
     let size = maybe(cursor, Rule::Conditional, Punct::RightBracket, height)?;
     let Some(close) = cursor.take_mark(Punct::RightBracket) else {
         drop(size);
-        return Err(cursor.refusal(FaultKind::Syntax));
+        return Err(cursor.fault());
     };
     Ok(ArrayPart {
         opening,
@@ -90,7 +90,7 @@ pub(crate) fn array_behind(
 pub(crate) fn maybe_array(
     cursor: &mut Cursor<'_>,
     height: Height,
-) -> Result<Option<ArrayPart>, Refusal>
+) -> Result<Option<ArrayPart>, ParseError>
     ensures { IsPartRead maybe_array_of (read_maybe_array (below height.levels)) cursor.old.rest.now
         cursor.new.rest.now result }
 {

@@ -4,12 +4,14 @@
 //! place is proved over again, through each of its parts, in each function that has one.
 
 ghost use Rattle.std.specs.Prelude.{◌≡◌};
-ghost use Rattle.pcc_base.specs.declared.fault.Fault.{Fault};
-ghost use Rattle.pcc_base.specs.declared.refusal.Refusal.TheVariants.{Fault as Faulty};
+ghost use Rattle.c_grammar.specs.Heads.{begins_item, word_begins_item};
 ghost use Rattle.c_syntax.specs.Declarations.{declaration_of};
 ghost use Rattle.c_grammar.specs.StatementReading.{read_condition};
+ghost use Rattle.c_parse_expressions.specs.Places.{front_place};
 ghost use Rattle.c_parse_expressions.specs.Readings.{IsRead};
+ghost use Rattle.c_parse_expressions.specs.declared.parse_error.ParseError.TheVariants.{Fault as Faulty};
 ghost use Rattle.c_parse.specs.StatementParts.{below_node, clause_of, condition_of, fields_of, for_head_of};
+ghost use Rattle.c_parse.specs.StatementParts.{front_begins_item};
 ghost use Rattle.c_parse.specs.StatementParts.{read_clause, read_do_tail, read_for_head, read_for_start};
 ghost use Rattle.c_parse.specs.StatementParts.{read_for_tests, read_switch_head, start_of, switch_head_of, tail_of};
 ghost use Rattle.c_parse.specs.StatementParts.{tests_of};
@@ -17,9 +19,9 @@ ghost use Rattle.c_parse.specs.StatementParts.{tests_of};
 use crate::declarations::declaration;
 use crate::optional_parts::maybe;
 use c_lex::{Punct, TokenKind};
-use c_parse_expressions::{Cursor, Height, Rule, begins_expression, fault_at, tree_of};
+use c_parse_expressions::{Cursor, Height, ParseError, Rule, begins_expression, tree_of};
 use c_syntax::{Declaration, Expression, Label, Statement};
-use pcc_base::{FaultKind, Keyword, Refusal, Span};
+use pcc_base::{Keyword, Span};
 
 /// `'(' expression ')'`
 #[derive(Drop)]
@@ -88,16 +90,16 @@ pub(crate) struct StatementList {
 
 /// `'(' expression ')'`, of an expression of at most this height
 #[inline(never)]
-pub(crate) fn parenthesised(cursor: &mut Cursor<'_>, lower: Height) -> Result<Condition, Refusal>
+pub(crate) fn parenthesised(cursor: &mut Cursor<'_>, lower: Height) -> Result<Condition, ParseError>
     ensures { IsRead condition_of (read_condition (fields_of lower.levels)) cursor.old.rest.now
         cursor.new.rest.now result }
 {
     let Some(opening) = cursor.take_mark(Punct::LeftParen) else {
-        return Err(cursor.refusal(FaultKind::Syntax));
+        return Err(cursor.fault());
     };
     let found = tree_of(cursor, Rule::Expression, lower)?;
     let Some(close) = cursor.take_mark(Punct::RightParen) else {
-        return Err(cursor.refusal(FaultKind::Syntax));
+        return Err(cursor.fault());
     };
     Ok(Condition {
         opening,
@@ -112,29 +114,29 @@ pub(crate) fn take_clause(
     cursor: &mut Cursor<'_>,
     mark: Punct,
     height: Height,
-) -> Result<Clause, Refusal>
+) -> Result<Clause, ParseError>
     ensures { IsRead clause_of (read_clause (below_node height.levels) mark) cursor.old.rest.now
         cursor.new.rest.now result }
 {
     let value = maybe(cursor, Rule::Expression, mark, height)?;
     let Some(mark) = cursor.take_mark(mark) else {
-        return Err(cursor.refusal(FaultKind::Syntax));
+        return Err(cursor.fault());
     };
     Ok(Clause { value, mark })
 }
 
 /// `'while' '(' expression ')' ';'`, behind the body of a `do`, of an expression of at most this height
 #[inline(never)]
-pub(crate) fn do_tail(cursor: &mut Cursor<'_>, lower: Height) -> Result<DoTail, Refusal>
+pub(crate) fn do_tail(cursor: &mut Cursor<'_>, lower: Height) -> Result<DoTail, ParseError>
     ensures { IsRead tail_of (read_do_tail (fields_of lower.levels)) cursor.old.rest.now
         cursor.new.rest.now result }
 {
     let Some(until) = cursor.take_word(Keyword::While) else {
-        return Err(cursor.refusal(FaultKind::Syntax));
+        return Err(cursor.fault());
     };
     let condition = parenthesised(cursor, lower)?;
     let Some(semicolon) = cursor.take_mark(Punct::Semicolon) else {
-        return Err(cursor.refusal(FaultKind::Syntax));
+        return Err(cursor.fault());
     };
     Ok(DoTail {
         until,
@@ -145,7 +147,7 @@ pub(crate) fn do_tail(cursor: &mut Cursor<'_>, lower: Height) -> Result<DoTail, 
 
 /// `expression? ';' | declaration`, in a `for`
 #[inline(never)]
-fn for_start(cursor: &mut Cursor<'_>, height: Height) -> Result<ForStart, Refusal>
+fn for_start(cursor: &mut Cursor<'_>, height: Height) -> Result<ForStart, ParseError>
     ensures { IsRead start_of (read_for_start (below_node height.levels)) cursor.old.rest.now
         cursor.new.rest.now result }
 {
@@ -159,7 +161,7 @@ fn for_start(cursor: &mut Cursor<'_>, height: Height) -> Result<ForStart, Refusa
 
 /// `expression? ';' expression? ')'`, in a `for`
 #[inline(never)]
-fn for_tests(cursor: &mut Cursor<'_>, height: Height) -> Result<ForTests, Refusal>
+fn for_tests(cursor: &mut Cursor<'_>, height: Height) -> Result<ForTests, ParseError>
     ensures { IsRead tests_of (read_for_tests (below_node height.levels)) cursor.old.rest.now
         cursor.new.rest.now result }
 {
@@ -170,12 +172,12 @@ fn for_tests(cursor: &mut Cursor<'_>, height: Height) -> Result<ForTests, Refusa
 
 /// `'(' (expression? ';' | declaration) expression? ';' expression? ')'`, in a `for`
 #[inline(never)]
-pub(crate) fn for_head(cursor: &mut Cursor<'_>, height: Height) -> Result<ForHead, Refusal>
+pub(crate) fn for_head(cursor: &mut Cursor<'_>, height: Height) -> Result<ForHead, ParseError>
     ensures { IsRead for_head_of (read_for_head (below_node height.levels)) cursor.old.rest.now
         cursor.new.rest.now result }
 {
     let Some(opening) = cursor.take_mark(Punct::LeftParen) else {
-        return Err(cursor.refusal(FaultKind::Syntax));
+        return Err(cursor.fault());
     };
     let start = for_start(cursor, height)?;
     match for_tests(cursor, height) {
@@ -184,28 +186,28 @@ pub(crate) fn for_head(cursor: &mut Cursor<'_>, height: Height) -> Result<ForHea
             start,
             tests,
         }),
-        Err(refusal) => {
+        Err(error) => {
             drop(start);
-            Err(refusal)
+            Err(error)
         }
     }
 }
 
 /// `'(' expression ')' '{'`, in a `switch`, of an expression of at most this height
 #[inline(never)]
-pub(crate) fn switch_head(cursor: &mut Cursor<'_>, lower: Height) -> Result<SwitchHead, Refusal>
+pub(crate) fn switch_head(cursor: &mut Cursor<'_>, lower: Height) -> Result<SwitchHead, ParseError>
     ensures { IsRead switch_head_of (read_switch_head (fields_of lower.levels)) cursor.old.rest.now
         cursor.new.rest.now result }
 {
     let value = parenthesised(cursor, lower)?;
     let Some(begin) = cursor.take_mark(Punct::LeftBrace) else {
-        return Err(cursor.refusal(FaultKind::Syntax));
+        return Err(cursor.fault());
     };
     Ok(SwitchHead { value, begin })
 }
 
-/// A declaration below a node of this height; where there is none, the refusal is that of a block's item.
-fn declaration_below(cursor: &mut Cursor<'_>, height: Height) -> Result<Declaration, Refusal>
+/// A declaration below a node of this height; where there is none, the fault is that of a block's item.
+fn declaration_below(cursor: &mut Cursor<'_>, height: Height) -> Result<Declaration, ParseError>
     ensures { IsRead declaration_of (below_node height.levels).declaration cursor.old.rest.now
         cursor.new.rest.now result }
 {
@@ -215,8 +217,10 @@ fn declaration_below(cursor: &mut Cursor<'_>, height: Height) -> Result<Declarat
     declaration(cursor, lower)
 }
 
-/// Whether a statement begins with this word.
-fn begins_statement(word: Keyword) -> bool {
+/// Whether a declaration or a statement begins with this word.
+fn word_begins_item(word: Keyword) -> bool
+    ensures { result ≡ word_begins_item word }
+{
     matches!(
         word,
         Keyword::If
@@ -227,13 +231,25 @@ fn begins_statement(word: Keyword) -> bool {
             | Keyword::Break
             | Keyword::Continue
             | Keyword::Return
+            | Keyword::Auto
+            | Keyword::Register
+            | Keyword::Static
+            | Keyword::Extern
+            | Keyword::Const
+            | Keyword::Void
+            | Keyword::Char
+            | Keyword::Short
+            | Keyword::Int
+            | Keyword::Signed
     )
 }
 
-/// Whether a statement may begin with this token.
-fn begins_item(kind: &TokenKind) -> bool {
+/// Whether a declaration or a statement may begin with this token.
+fn begins_item(kind: &TokenKind) -> bool
+    ensures { result ≡ begins_item kind.now }
+{
     match kind {
-        TokenKind::Word(word) => begins_statement(*word),
+        TokenKind::Word(word) => word_begins_item(*word),
         TokenKind::Mark(mark) => *mark == Punct::LeftBrace
             || *mark == Punct::Semicolon
             || begins_expression(kind),
@@ -243,18 +259,17 @@ fn begins_item(kind: &TokenKind) -> bool {
     }
 }
 
-/// The refusal of the next token where a declaration or a statement would be needed, and no height is left
-/// for one: TooDeep where one may begin with it, and otherwise Syntax.
-pub(crate) fn no_item_height(cursor: &Cursor<'_>) -> Refusal
-    ensures { (fault : Fault) × (result ≡ Faulty fault) }
+/// The fault at the next token, where a declaration or a statement would be needed and no height is left for one: it is
+/// deep where one may begin with the token.
+pub(crate) fn no_item_height(cursor: &Cursor<'_>) -> ParseError
+    ensures { result ≡ Faulty (front_begins_item cursor.now.rest.now) (front_place cursor.now.rest.now) }
 {
-    match cursor.rest.first() {
-        Some(token) => {
-            if cursor.at_specifier() || begins_item(&token.kind) {
-                return fault_at(FaultKind::TooDeep, token.at);
-            }
-            fault_at(FaultKind::Syntax, token.at)
-        }
-        None => fault_at(FaultKind::Syntax, cursor.end),
+    let deep = match cursor.rest.first() {
+        Some(token) => begins_item(&token.kind),
+        None => false,
+    };
+    ParseError::Fault {
+        deep,
+        at: cursor.place(),
     }
 }

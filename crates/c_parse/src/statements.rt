@@ -1,7 +1,6 @@
 //! Statements with statements in them. What stands before and behind those is read by `parts`.
 
-ghost use Rattle.std.specs.Prelude.{Some};
-ghost use Rattle.c_grammar.specs.Chains.{then_read};
+ghost use Rattle.c_grammar.specs.Chains.{Found, then_read};
 ghost use Rattle.c_grammar.specs.DeclarationReading.{read_declaration};
 ghost use Rattle.c_syntax.specs.Statements.{stmt_of, Declared};
 ghost use Rattle.c_grammar.specs.StatementReading.{read_statement, block_behind, else_from, if_behind, while_behind};
@@ -22,12 +21,12 @@ use crate::statement_parts::{
     Condition, StatementList, do_tail, for_head, no_item_height, parenthesised, switch_head,
 };
 use c_lex::Punct;
-use c_parse_expressions::{Cursor, Height};
+use c_parse_expressions::{Cursor, Height, ParseError};
 use c_syntax::Statement;
-use pcc_base::{FaultKind, Keyword, Refusal, Span};
+use pcc_base::{Keyword, Span};
 
-/// A statement below a node of this height; where there is none, the refusal is that of a block's item.
-pub fn statement_below(cursor: &mut Cursor<'_>, height: Height) -> Result<Statement, Refusal>
+/// A statement below a node of this height; where there is none, the fault is that of a block's item.
+pub fn statement_below(cursor: &mut Cursor<'_>, height: Height) -> Result<Statement, ParseError>
     ensures { IsRead stmt_of (below_node height.levels).statement cursor.old.rest.now cursor.new.rest.now result }
 {
     let Some(lower) = height.lower() else {
@@ -37,7 +36,7 @@ pub fn statement_below(cursor: &mut Cursor<'_>, height: Height) -> Result<Statem
 }
 
 /// A statement of at most this height
-pub fn statement(cursor: &mut Cursor<'_>, height: Height) -> Result<Statement, Refusal>
+pub fn statement(cursor: &mut Cursor<'_>, height: Height) -> Result<Statement, ParseError>
     ensures { IsRead stmt_of (read_statement (below_node height.levels)) cursor.old.rest.now
         cursor.new.rest.now result }
 {
@@ -47,7 +46,7 @@ pub fn statement(cursor: &mut Cursor<'_>, height: Height) -> Result<Statement, R
 
 /// A statement in another one, of at most this height
 #[cycle(statement)]
-fn boxed_statement(cursor: &mut Cursor<'_>, lower: Height) -> Result<Box<Statement>, Refusal>
+fn boxed_statement(cursor: &mut Cursor<'_>, lower: Height) -> Result<Box<Statement>, ParseError>
     ensures { IsRead boxed_of (fields_of lower.levels).statement cursor.old.rest.now cursor.new.rest.now result }
 {
     any_statement(cursor, lower)
@@ -56,7 +55,7 @@ fn boxed_statement(cursor: &mut Cursor<'_>, lower: Height) -> Result<Box<Stateme
 /// `declaration | statement`, in a block of this height
 #[inline(never)]
 #[cycle(statement)]
-fn block_item(cursor: &mut Cursor<'_>, height: Height) -> Result<Box<Statement>, Refusal>
+fn block_item(cursor: &mut Cursor<'_>, height: Height) -> Result<Box<Statement>, ParseError>
     ensures { IsRead boxed_of (below_node height.levels).item cursor.old.rest.now cursor.new.rest.now result }
 {
     let Some(lower) = height.lower() else {
@@ -70,9 +69,9 @@ fn block_item(cursor: &mut Cursor<'_>, height: Height) -> Result<Box<Statement>,
 
 /// A declaration of at most this height, as a statement
 #[inline(never)]
-fn declared(cursor: &mut Cursor<'_>, lower: Height) -> Result<Box<Statement>, Refusal>
+fn declared(cursor: &mut Cursor<'_>, lower: Height) -> Result<Box<Statement>, ParseError>
     ensures { IsRead boxed_of (λ ts. then_read (read_declaration (below lower.levels) ts)
-        (λ d us. Some (Declared d, us))) cursor.old.rest.now cursor.new.rest.now result }
+        (λ d us. Found (Declared d) us)) cursor.old.rest.now cursor.new.rest.now result }
 {
     let declaration = declaration(cursor, lower)?;
     Ok(declared_node(cursor.alloc, declaration)?)
@@ -81,7 +80,7 @@ fn declared(cursor: &mut Cursor<'_>, lower: Height) -> Result<Box<Statement>, Re
 /// `label* statement`, of at most this height
 #[inline(never)]
 #[cycle(statement)]
-fn labelled(cursor: &mut Cursor<'_>, lower: Height) -> Result<Box<Statement>, Refusal>
+fn labelled(cursor: &mut Cursor<'_>, lower: Height) -> Result<Box<Statement>, ParseError>
     ensures { IsRead boxed_of (fields_of lower.levels).labelled cursor.old.rest.now cursor.new.rest.now result }
 {
     let list = take_labels(cursor, lower)?;
@@ -92,7 +91,7 @@ fn labelled(cursor: &mut Cursor<'_>, lower: Height) -> Result<Box<Statement>, Re
 /// `(declaration | statement)* '}'`, in a block of this height
 #[inline(never)]
 #[cycle(statement)]
-fn block_items(cursor: &mut Cursor<'_>, height: Height) -> Result<StatementList, Refusal>
+fn block_items(cursor: &mut Cursor<'_>, height: Height) -> Result<StatementList, ParseError>
     ensures { IsRead closed_of (read_closed (below_node height.levels).item) cursor.old.rest.now
         cursor.new.rest.now result }
 {
@@ -102,7 +101,7 @@ fn block_items(cursor: &mut Cursor<'_>, height: Height) -> Result<StatementList,
         push_item(&mut statements, item)?;
     }
     let Some(close) = cursor.take_mark(Punct::RightBrace) else {
-        return Err(cursor.refusal(FaultKind::Syntax));
+        return Err(cursor.fault());
     };
     Ok(StatementList { statements, close })
 }
@@ -110,7 +109,7 @@ fn block_items(cursor: &mut Cursor<'_>, height: Height) -> Result<StatementList,
 /// `(label* statement)* '}'`, each statement of at most this height
 #[inline(never)]
 #[cycle(statement)]
-fn switch_items(cursor: &mut Cursor<'_>, lower: Height) -> Result<StatementList, Refusal>
+fn switch_items(cursor: &mut Cursor<'_>, lower: Height) -> Result<StatementList, ParseError>
     ensures { IsRead closed_of (read_closed (fields_of lower.levels).labelled) cursor.old.rest.now
         cursor.new.rest.now result }
 {
@@ -120,7 +119,7 @@ fn switch_items(cursor: &mut Cursor<'_>, lower: Height) -> Result<StatementList,
         push_item(&mut statements, item)?;
     }
     let Some(close) = cursor.take_mark(Punct::RightBrace) else {
-        return Err(cursor.refusal(FaultKind::Syntax));
+        return Err(cursor.fault());
     };
     Ok(StatementList { statements, close })
 }
@@ -132,7 +131,7 @@ fn block_behind(
     cursor: &mut Cursor<'_>,
     opening: Span,
     height: Height,
-) -> Result<Box<Statement>, Refusal>
+) -> Result<Box<Statement>, ParseError>
     ensures { IsRead boxed_of (block_behind (below_node height.levels) opening) cursor.old.rest.now
         cursor.new.rest.now result }
 {
@@ -144,7 +143,11 @@ fn block_behind(
 /// `if` that has none
 #[inline(never)]
 #[cycle(statement)]
-fn if_behind(cursor: &mut Cursor<'_>, at: Span, height: Height) -> Result<Box<Statement>, Refusal>
+fn if_behind(
+    cursor: &mut Cursor<'_>,
+    at: Span,
+    height: Height,
+) -> Result<Box<Statement>, ParseError>
     ensures { IsRead boxed_of (if_behind (below_node height.levels) at) cursor.old.rest.now
         cursor.new.rest.now result }
 {
@@ -152,9 +155,9 @@ fn if_behind(cursor: &mut Cursor<'_>, at: Span, height: Height) -> Result<Box<St
     let condition = parenthesised(cursor, lower)?;
     match boxed_statement(cursor, lower) {
         Ok(then) => else_behind(cursor, at, condition, then, lower),
-        Err(refusal) => {
+        Err(error) => {
             drop(condition);
-            Err(refusal)
+            Err(error)
         }
     }
 }
@@ -168,7 +171,7 @@ fn else_behind(
     condition: Condition,
     then: Box<Statement>,
     lower: Height,
-) -> Result<Box<Statement>, Refusal>
+) -> Result<Box<Statement>, ParseError>
     ensures { IsPartRead boxed_of
         (λ ts. else_from (fields_of lower.levels) at (condition_of condition) (stmt_of then.value)
         (take_word Keyword.Else ts) ts)
@@ -179,9 +182,9 @@ fn else_behind(
     };
     match boxed_statement(cursor, lower) {
         Ok(other) => Ok(if_else_node(cursor.alloc, at, condition, then, otherwise, other)?),
-        Err(refusal) => {
+        Err(error) => {
             drop((condition, then));
-            Err(refusal)
+            Err(error)
         }
     }
 }
@@ -193,7 +196,7 @@ fn while_behind(
     cursor: &mut Cursor<'_>,
     at: Span,
     height: Height,
-) -> Result<Box<Statement>, Refusal>
+) -> Result<Box<Statement>, ParseError>
     ensures { IsRead boxed_of (while_behind (below_node height.levels) at) cursor.old.rest.now
         cursor.new.rest.now result }
 {
@@ -201,9 +204,9 @@ fn while_behind(
     let condition = parenthesised(cursor, lower)?;
     match boxed_statement(cursor, lower) {
         Ok(body) => Ok(while_node(cursor.alloc, at, condition, body)?),
-        Err(refusal) => {
+        Err(error) => {
             drop(condition);
-            Err(refusal)
+            Err(error)
         }
     }
 }
@@ -211,7 +214,11 @@ fn while_behind(
 /// `'do' statement 'while' '(' expression ')' ';'`, behind the first word
 #[inline(never)]
 #[cycle(statement)]
-fn do_behind(cursor: &mut Cursor<'_>, at: Span, height: Height) -> Result<Box<Statement>, Refusal>
+fn do_behind(
+    cursor: &mut Cursor<'_>,
+    at: Span,
+    height: Height,
+) -> Result<Box<Statement>, ParseError>
     ensures { IsRead boxed_of (do_behind (below_node height.levels) at) cursor.old.rest.now
         cursor.new.rest.now result }
 {
@@ -219,9 +226,9 @@ fn do_behind(cursor: &mut Cursor<'_>, at: Span, height: Height) -> Result<Box<St
     let body = boxed_statement(cursor, lower)?;
     match do_tail(cursor, lower) {
         Ok(tail) => Ok(do_node(cursor.alloc, at, body, tail)?),
-        Err(refusal) => {
+        Err(error) => {
             drop(body);
-            Err(refusal)
+            Err(error)
         }
     }
 }
@@ -229,7 +236,11 @@ fn do_behind(cursor: &mut Cursor<'_>, at: Span, height: Height) -> Result<Box<St
 /// `'for' '(' (expression? ';' | declaration) expression? ';' expression? ')' statement`, behind the word
 #[inline(never)]
 #[cycle(statement)]
-fn for_behind(cursor: &mut Cursor<'_>, at: Span, height: Height) -> Result<Box<Statement>, Refusal>
+fn for_behind(
+    cursor: &mut Cursor<'_>,
+    at: Span,
+    height: Height,
+) -> Result<Box<Statement>, ParseError>
     ensures { IsRead boxed_of (for_behind (below_node height.levels) at) cursor.old.rest.now
         cursor.new.rest.now result }
 {
@@ -237,9 +248,9 @@ fn for_behind(cursor: &mut Cursor<'_>, at: Span, height: Height) -> Result<Box<S
     let head = for_head(cursor, height)?;
     match boxed_statement(cursor, lower) {
         Ok(body) => Ok(for_node(cursor.alloc, at, head, body)?),
-        Err(refusal) => {
+        Err(error) => {
             drop(head);
-            Err(refusal)
+            Err(error)
         }
     }
 }
@@ -251,7 +262,7 @@ fn switch_behind(
     cursor: &mut Cursor<'_>,
     at: Span,
     height: Height,
-) -> Result<Box<Statement>, Refusal>
+) -> Result<Box<Statement>, ParseError>
     ensures { IsRead boxed_of (switch_behind (below_node height.levels) at) cursor.old.rest.now
         cursor.new.rest.now result }
 {
@@ -259,9 +270,9 @@ fn switch_behind(
     let head = switch_head(cursor, lower)?;
     match switch_items(cursor, lower) {
         Ok(items) => Ok(switch_node(cursor.alloc, at, head, items)?),
-        Err(refusal) => {
+        Err(error) => {
             drop(head);
-            Err(refusal)
+            Err(error)
         }
     }
 }
@@ -269,7 +280,7 @@ fn switch_behind(
 /// `statement : block | expression? ';' | 'if' .. | 'while' .. | 'do' .. | 'for' .. | 'switch' .. | 'break' ';' |
 /// 'continue' ';' | 'return' expression? ';'` (C99 6.8)
 #[cycle(statement)]
-fn any_statement(cursor: &mut Cursor<'_>, height: Height) -> Result<Box<Statement>, Refusal>
+fn any_statement(cursor: &mut Cursor<'_>, height: Height) -> Result<Box<Statement>, ParseError>
     ensures { IsRead boxed_of (read_statement (below_node height.levels)) cursor.old.rest.now
         cursor.new.rest.now result }
 {

@@ -1,21 +1,22 @@
-ghost use Rattle.std.specs.Prelude.{◌≡◌, ◌<◌, length, IfSome, IfNone, Some, None, [], ℕ, is_some};
+ghost use Rattle.std.specs.Prelude.{◌≡◌, ◌<◌, length, IfSome, IfNone, Some, None, [], ℕ, false, is_some};
 ghost use Rattle.std.specs.Bool.{OnTrue, OnFalse};
-ghost use Rattle.pcc_base.specs.declared.refusal.Refusal.TheVariants.{Fault as Faulty};
+ghost use Rattle.c_parse_expressions.specs.declared.parse_error.ParseError.TheVariants.{Fault as Faulty};
 ghost use Rattle.c_grammar.specs.Taking.{take_mark, take_word, take_unary, take_step, take_assign, take_binary};
 ghost use Rattle.c_grammar.specs.Taking.{take_specifiers};
 ghost use Rattle.c_grammar.specs.Reading.{Readers, read_cast, read_unary};
 ghost use Rattle.c_parse_expressions.specs.Readings.{IsTaken};
 ghost use Rattle.c_parse_expressions.specs.Fronts.{BeginsWithSpecifier};
-ghost use Rattle.c_parse_expressions.specs.Places.{next_place, kind_without_height};
+ghost use Rattle.c_parse_expressions.specs.Places.{front_place, front_begins};
 
 use crate::casts::{begins_with_specifier, cast_at};
 use crate::kinds::is_mark;
+use crate::parse_error::ParseError;
 use crate::token_operators::{
     NO_LEVEL, assign_of, begins_expression, binary_of, is_word, level_of, step_of, unary_of,
 };
 use c_lex::{Punct, Token};
 use c_syntax::{AssignOp, BinaryOp, StepOp, UnaryOp};
-use pcc_base::{Fault, FaultKind, Keyword, Refusal, Span};
+use pcc_base::{Keyword, Span};
 use std::alloc::Global;
 
 /// A place in a list of tokens, from which a parser reads on.
@@ -24,8 +25,6 @@ pub struct Cursor<'a> {
     pub alloc: Global,
     /// The tokens that are left.
     pub rest: &'a [Token],
-    /// The place behind the last token.
-    pub end: Span,
 }
 
 impl Cursor<'_> {
@@ -136,40 +135,38 @@ impl Cursor<'_> {
         }
     }
 
-    /// The refusal at the next token, or at the end where there is none.
-    pub fn refusal(&self, kind: FaultKind) -> Refusal
-        ensures { result ≡ Faulty (record { kind = kind; at = next_place self.now.rest.now self.now.end }) }
-    {
-        let at = match self.rest.first() {
-            Some(token) => token.at,
-            None => self.end,
-        };
-        fault_at(kind, at)
-    }
-
-    /// The refusal of the next token where an expression would be needed, and no height is left for one:
-    /// TooDeep where an expression may begin with it, and otherwise Syntax.
-    pub fn no_height(&self) -> Refusal
-        ensures { result ≡ Faulty (record {
-          kind = kind_without_height self.now.rest.now;
-          at = next_place self.now.rest.now self.now.end;
-        }) }
+    /// The place of the next token, where there is one.
+    pub fn place(&self) -> Option<Span>
+        ensures { result ≡ front_place self.now.rest.now }
     {
         match self.rest.first() {
-            Some(token) => {
-                if begins_expression(&token.kind) {
-                    return fault_at(FaultKind::TooDeep, token.at);
-                }
-                fault_at(FaultKind::Syntax, token.at)
-            }
-            None => fault_at(FaultKind::Syntax, self.end),
+            Some(token) => Some(token.at),
+            None => None,
         }
     }
-}
 
-/// The refusal at a place.
-pub fn fault_at(kind: FaultKind, at: Span) -> Refusal
-    ensures { result ≡ Faulty (record { kind = kind; at = at }) }
-{
-    Refusal::Fault(Fault { kind, at })
+    /// The fault at the next token, or at the end where there is none: nothing of any height goes on with it.
+    pub fn fault(&self) -> ParseError
+        ensures { result ≡ Faulty false (front_place self.now.rest.now) }
+    {
+        ParseError::Fault {
+            deep: false,
+            at: self.place(),
+        }
+    }
+
+    /// The fault at the next token, where an expression would be needed and no height is left for one: it is deep where
+    /// an expression may begin with the token.
+    pub fn no_height(&self) -> ParseError
+        ensures { result ≡ Faulty (front_begins self.now.rest.now) (front_place self.now.rest.now) }
+    {
+        let deep = match self.rest.first() {
+            Some(token) => begins_expression(&token.kind),
+            None => false,
+        };
+        ParseError::Fault {
+            deep,
+            at: self.place(),
+        }
+    }
 }

@@ -5,21 +5,21 @@ ghost use Rattle.c_syntax.specs.Expressions.{expr_of};
 ghost use Rattle.c_syntax.specs.ExpressionTokens.{expr_height, looseness};
 ghost use Rattle.c_grammar.specs.Reading.{read_expression, read_assignment, read_conditional, read_binary, read_cast};
 ghost use Rattle.c_grammar.specs.Reading.{read_unary, infix_step, infix_from, assignment_from, conditional_from};
-ghost use Rattle.c_grammar.specs.Reading.{cast_behind, prefix_from, unary_from, readers};
-ghost use Rattle.c_grammar.specs.Taking.{take_specifiers, take_pointer};
+ghost use Rattle.c_grammar.specs.Reading.{cast_inside, prefix_from, unary_from, readers};
 ghost use Rattle.c_grammar.specs.Chains.{chained};
 ghost use Rattle.c_parse_expressions.specs.ExpressionReadings.{IsReading, IsPartReading, IsTurn, IsRule, below, reader_of};
 
 use crate::build::binary_node;
-use crate::cursor::{Cursor, fault_at};
+use crate::cursor::Cursor;
 use crate::found::Found;
 use crate::height::Height;
 use crate::nodes::{assignment_node, cast_node, conditional_node, prefix_node, unary_node};
+use crate::parse_error::ParseError;
 use crate::primary::postfix;
 use crate::turn::Turn;
 use c_lex::Punct;
 use c_syntax::{AssignOp, BinaryOp, Expression, StepOp, UnaryOp};
-use pcc_base::{FaultKind, Refusal, Span};
+use pcc_base::Span;
 
 /// The level of the loosest operators of `binary`.
 const LOOSEST: usize = 10;
@@ -62,7 +62,7 @@ fn is_unary(e: &Expression) -> bool
 
 /// A tree of a rule, of at most this height.
 #[cycle(expression)]
-pub fn tree_of(cursor: &mut Cursor<'_>, rule: Rule, height: Height) -> Result<Found, Refusal>
+pub fn tree_of(cursor: &mut Cursor<'_>, rule: Rule, height: Height) -> Result<Found, ParseError>
     requires { IsRule rule }
     ensures { IsReading height.levels (reader_of rule (readers height.levels)) cursor.old.rest.now
         cursor.new.rest.now result }
@@ -77,26 +77,9 @@ pub fn tree_of(cursor: &mut Cursor<'_>, rule: Rule, height: Height) -> Result<Fo
     }
 }
 
-/// A tree of a rule below a node of this height, of which this is a token; TooDeep there where no height
-/// is left.
-#[cycle(expression)]
-pub fn tree_below(
-    cursor: &mut Cursor<'_>,
-    rule: Rule,
-    height: Height,
-    at: Span,
-) -> Result<Found, Refusal>
-    requires { IsRule rule }
-    ensures { IsReading (height.levels - 1) (reader_of rule (below height.levels)) cursor.old.rest.now
-        cursor.new.rest.now result }
-{
-    let lower = height.below(at)?;
-    tree_of(cursor, rule, lower)
-}
-
 /// `expression : assignment (',' assignment)*`
 #[cycle(expression)]
-pub fn expression(cursor: &mut Cursor<'_>, height: Height) -> Result<Found, Refusal>
+pub fn expression(cursor: &mut Cursor<'_>, height: Height) -> Result<Found, ParseError>
     ensures { IsReading height.levels (read_expression height.levels (below height.levels)) cursor.old.rest.now
         cursor.new.rest.now result }
 {
@@ -110,6 +93,7 @@ pub fn expression(cursor: &mut Cursor<'_>, height: Height) -> Result<Found, Refu
 }
 
 /// The right operand of an operator, a tree of this rule, behind the left one and the operator
+#[tactic(auto, using(crate::proofs::Rooms::part_is_low, crate::proofs::Rooms::part_is_high))]
 #[inline(never)]
 #[cycle(expression)]
 fn infix_behind(
@@ -119,7 +103,7 @@ fn infix_behind(
     at: Span,
     rule: Rule,
     height: Height,
-) -> Result<Turn, Refusal>
+) -> Result<Turn, ParseError>
     requires rule { IsRule rule }
     requires left { left.height ≡ expr_height (expr_of left.tree.value) }
     requires within { (0 < left.height) × (left.height ≤ height.levels) }
@@ -127,18 +111,19 @@ fn infix_behind(
         (expr_of left.tree.value) (Some ((op, at), cursor.old.rest.now)))
         (expr_of left.tree.value) cursor.old.rest.now cursor.new.rest.now result }
 {
-    if let Err(refusal) = height.above(left.height, at) {
-        return Err(left.refused(refusal));
-    }
-    match tree_below(cursor, rule, height, at) {
+    let lower = match height.above(left.height, at) {
+        Ok(lower) => lower,
+        Err(error) => return Err(left.refused(error)),
+    };
+    match tree_of(cursor, rule, lower) {
         Ok(right) => Ok(Turn::More(binary_node(cursor.alloc, op, left, at, right)?)),
-        Err(refusal) => Err(left.refused(refusal)),
+        Err(error) => Err(left.refused(error)),
     }
 }
 
 /// `',' assignment`
 #[cycle(expression)]
-fn comma(cursor: &mut Cursor<'_>, left: Found, height: Height) -> Result<Turn, Refusal>
+fn comma(cursor: &mut Cursor<'_>, left: Found, height: Height) -> Result<Turn, ParseError>
     requires left { left.height ≡ expr_height (expr_of left.tree.value) }
     requires within { (0 < left.height) × (left.height ≤ height.levels) }
     ensures { IsTurn height.levels (infix_step 13 height.levels (below height.levels).assignment
@@ -153,7 +138,7 @@ fn comma(cursor: &mut Cursor<'_>, left: Found, height: Height) -> Result<Turn, R
 
 /// `assignment : conditional | unary assign-op assignment`
 #[cycle(expression)]
-pub fn assignment(cursor: &mut Cursor<'_>, height: Height) -> Result<Found, Refusal>
+pub fn assignment(cursor: &mut Cursor<'_>, height: Height) -> Result<Found, ParseError>
     ensures { IsReading height.levels (read_assignment height.levels (below height.levels)) cursor.old.rest.now
         cursor.new.rest.now result }
 {
@@ -165,6 +150,7 @@ pub fn assignment(cursor: &mut Cursor<'_>, height: Height) -> Result<Found, Refu
 }
 
 /// `assignment`, behind an expression and an assignment operator
+#[tactic(auto, using(crate::proofs::Rooms::part_is_low, crate::proofs::Rooms::part_is_high))]
 #[inline(never)]
 #[cycle(expression)]
 fn assignment_behind(
@@ -173,27 +159,31 @@ fn assignment_behind(
     op: AssignOp,
     at: Span,
     height: Height,
-) -> Result<Found, Refusal>
+) -> Result<Found, ParseError>
     requires left { left.height ≡ expr_height (expr_of left.tree.value) }
     requires within { (0 < left.height) × (left.height ≤ height.levels) }
     ensures { IsReading height.levels (λ ts. assignment_from height.levels (below height.levels)
         (expr_of left.tree.value) (Some ((op, at), ts)) ts) cursor.old.rest.now cursor.new.rest.now result }
 {
     if !is_unary(&left.tree) {
-        return Err(left.refused(fault_at(FaultKind::Syntax, at)));
+        return Err(left.refused(ParseError::Fault {
+            deep: false,
+            at: Some(at),
+        }));
     }
-    if let Err(refusal) = height.above(left.height, at) {
-        return Err(left.refused(refusal));
-    }
-    match tree_below(cursor, Rule::Assignment, height, at) {
+    let lower = match height.above(left.height, at) {
+        Ok(lower) => lower,
+        Err(error) => return Err(left.refused(error)),
+    };
+    match tree_of(cursor, Rule::Assignment, lower) {
         Ok(right) => Ok(assignment_node(cursor.alloc, op, left, at, right)?),
-        Err(refusal) => Err(left.refused(refusal)),
+        Err(error) => Err(left.refused(error)),
     }
 }
 
 /// `conditional : binary ('?' expression ':' conditional)?`
 #[cycle(expression)]
-pub fn conditional(cursor: &mut Cursor<'_>, height: Height) -> Result<Found, Refusal>
+pub fn conditional(cursor: &mut Cursor<'_>, height: Height) -> Result<Found, ParseError>
     ensures { IsReading height.levels (read_conditional height.levels (below height.levels)) cursor.old.rest.now
         cursor.new.rest.now result }
 {
@@ -205,6 +195,7 @@ pub fn conditional(cursor: &mut Cursor<'_>, height: Height) -> Result<Found, Ref
 }
 
 /// `expression ':' conditional`, behind a condition and the `?`
+#[tactic(auto, using(crate::proofs::Rooms::part_is_low, crate::proofs::Rooms::part_is_high))]
 #[inline(never)]
 #[cycle(expression)]
 fn conditional_behind(
@@ -212,24 +203,25 @@ fn conditional_behind(
     condition: Found,
     question: Span,
     height: Height,
-) -> Result<Found, Refusal>
+) -> Result<Found, ParseError>
     requires condition { condition.height ≡ expr_height (expr_of condition.tree.value) }
     requires within { (0 < condition.height) × (condition.height ≤ height.levels) }
     ensures { IsReading height.levels (λ ts. conditional_from height.levels (below height.levels)
         (expr_of condition.tree.value) (Some (question, ts)) ts) cursor.old.rest.now cursor.new.rest.now result }
 {
-    if let Err(refusal) = height.above(condition.height, question) {
-        return Err(condition.refused(refusal));
-    }
-    let first = match tree_below(cursor, Rule::Expression, height, question) {
+    let lower = match height.above(condition.height, question) {
+        Ok(lower) => lower,
+        Err(error) => return Err(condition.refused(error)),
+    };
+    let first = match tree_of(cursor, Rule::Expression, lower) {
         Ok(first) => first,
-        Err(refusal) => return Err(condition.refused(refusal)),
+        Err(error) => return Err(condition.refused(error)),
     };
     let Some(colon) = cursor.take_mark(Punct::Colon) else {
         drop(first);
-        return Err(condition.refused(cursor.refusal(FaultKind::Syntax)));
+        return Err(condition.refused(cursor.fault()));
     };
-    match tree_below(cursor, Rule::Conditional, height, colon) {
+    match tree_of(cursor, Rule::Conditional, lower) {
         Ok(second) => Ok(conditional_node(
             cursor.alloc,
             condition,
@@ -238,9 +230,9 @@ fn conditional_behind(
             colon,
             second,
         )?),
-        Err(refusal) => {
+        Err(error) => {
             drop(first);
-            Err(condition.refused(refusal))
+            Err(condition.refused(error))
         }
     }
 }
@@ -248,7 +240,7 @@ fn conditional_behind(
 /// `binary`, from the level with this number on, which counts from the tightest; level 0 is `cast`. The levels that
 /// have no operator here are passed over.
 #[cycle(expression)]
-fn binary(cursor: &mut Cursor<'_>, level: usize, height: Height) -> Result<Found, Refusal>
+fn binary(cursor: &mut Cursor<'_>, level: usize, height: Height) -> Result<Found, ParseError>
     requires level { level ≤ 10 }
     ensures { IsReading height.levels (read_binary height.levels (below height.levels) level) cursor.old.rest.now
         cursor.new.rest.now result }
@@ -277,7 +269,7 @@ fn operators(
     operand: Found,
     level: usize,
     height: Height,
-) -> Result<Found, Refusal>
+) -> Result<Found, ParseError>
     requires bottom { 0 < level }
     requires top { level ≤ 10 }
     requires operand { operand.height ≡ expr_height (expr_of operand.tree.value) }
@@ -302,7 +294,7 @@ fn operator(
     left: Found,
     level: usize,
     height: Height,
-) -> Result<Turn, Refusal>
+) -> Result<Turn, ParseError>
     requires bottom { 0 < level }
     requires top { level ≤ 10 }
     requires left { left.height ≡ expr_height (expr_of left.tree.value) }
@@ -319,7 +311,7 @@ fn operator(
 
 /// `cast : unary | '(' specifiers pointer? ')' cast`
 #[cycle(expression)]
-fn cast(cursor: &mut Cursor<'_>, height: Height) -> Result<Found, Refusal>
+fn cast(cursor: &mut Cursor<'_>, height: Height) -> Result<Found, ParseError>
     ensures { IsReading height.levels (read_cast height.levels (below height.levels)) cursor.old.rest.now
         cursor.new.rest.now result }
 {
@@ -330,25 +322,26 @@ fn cast(cursor: &mut Cursor<'_>, height: Height) -> Result<Found, Refusal>
 }
 
 /// `specifiers pointer? ')' cast`, behind the `(`
+#[tactic(auto, using(crate::proofs::Rooms::room_below, crate::proofs::Rooms::no_room_below))]
 #[inline(never)]
 #[cycle(expression)]
-fn cast_behind(cursor: &mut Cursor<'_>, opening: Span, height: Height) -> Result<Found, Refusal>
-    ensures { IsReading height.levels (λ ts. cast_behind (below height.levels) opening (take_specifiers ts).0
-        (take_pointer (take_specifiers ts).1)) cursor.old.rest.now cursor.new.rest.now result }
+fn cast_behind(cursor: &mut Cursor<'_>, opening: Span, height: Height) -> Result<Found, ParseError>
+    ensures { IsReading height.levels (cast_inside (below height.levels) opening) cursor.old.rest.now
+        cursor.new.rest.now result }
 {
-    height.below(opening)?;
+    let lower = height.below(opening)?;
     let specifiers = cursor.take_specifiers()?;
     let pointer = cursor.take_pointer()?;
     let Some(close) = cursor.take_mark(Punct::RightParen) else {
-        return Err(cursor.refusal(FaultKind::Syntax));
+        return Err(cursor.fault());
     };
-    let operand = tree_below(cursor, Rule::Cast, height, close)?;
+    let operand = tree_of(cursor, Rule::Cast, lower)?;
     Ok(cast_node(cursor.alloc, opening, specifiers, pointer, close, operand)?)
 }
 
 /// `unary : postfix | ('++' | '--') unary | ('&' | '*' | '+' | '-' | '~' | '!') cast`
 #[cycle(expression)]
-fn unary(cursor: &mut Cursor<'_>, height: Height) -> Result<Found, Refusal>
+fn unary(cursor: &mut Cursor<'_>, height: Height) -> Result<Found, ParseError>
     ensures { IsReading height.levels (read_unary height.levels (below height.levels)) cursor.old.rest.now
         cursor.new.rest.now result }
 {
@@ -362,6 +355,7 @@ fn unary(cursor: &mut Cursor<'_>, height: Height) -> Result<Found, Refusal>
 }
 
 /// `unary`, behind `++` or `--`
+#[tactic(auto, using(crate::proofs::Rooms::room_below, crate::proofs::Rooms::no_room_below))]
 #[inline(never)]
 #[cycle(expression)]
 fn prefix_behind(
@@ -369,15 +363,17 @@ fn prefix_behind(
     op: StepOp,
     at: Span,
     height: Height,
-) -> Result<Found, Refusal>
+) -> Result<Found, ParseError>
     ensures { IsReading height.levels (λ ts. prefix_from height.levels (below height.levels) (Some ((op, at), ts)) ts)
         cursor.old.rest.now cursor.new.rest.now result }
 {
-    let operand = tree_below(cursor, Rule::Unary, height, at)?;
+    let lower = height.below(at)?;
+    let operand = tree_of(cursor, Rule::Unary, lower)?;
     Ok(prefix_node(cursor.alloc, op, at, operand)?)
 }
 
 /// `cast`, behind an operator before an operand
+#[tactic(auto, using(crate::proofs::Rooms::room_below, crate::proofs::Rooms::no_room_below))]
 #[inline(never)]
 #[cycle(expression)]
 fn unary_behind(
@@ -385,10 +381,11 @@ fn unary_behind(
     op: UnaryOp,
     at: Span,
     height: Height,
-) -> Result<Found, Refusal>
+) -> Result<Found, ParseError>
     ensures { IsReading height.levels (λ ts. unary_from height.levels (below height.levels) (Some ((op, at), ts)) ts)
         cursor.old.rest.now cursor.new.rest.now result }
 {
-    let operand = tree_below(cursor, Rule::Cast, height, at)?;
+    let lower = height.below(at)?;
+    let operand = tree_of(cursor, Rule::Cast, lower)?;
     Ok(unary_node(cursor.alloc, op, at, operand)?)
 }

@@ -2,8 +2,9 @@
 
 ghost use Rattle.std.specs.Prelude.{◌≡◌};
 
+use crate::parse_error::ParseError;
 use c_syntax::Expression;
-use pcc_base::{Refusal, Span};
+use pcc_base::Span;
 
 /// An expression that was read, and its height.
 #[derive(Drop)]
@@ -16,11 +17,11 @@ impl Found {
     /// Lets the tree go, since a part behind it is refused. A drop in place would take its room in the frame of
     /// whoever reads the nest.
     #[inline(never)]
-    pub fn refused(self, refusal: Refusal) -> Refusal
-        ensures { result ≡ refusal }
+    pub fn refused(self, error: ParseError) -> ParseError
+        ensures { result ≡ error }
     {
         drop(self);
-        refusal
+        error
     }
 }
 
@@ -35,10 +36,10 @@ pub struct Values {
 impl Values {
     /// Lets the values go, since a part behind them is refused.
     #[inline(never)]
-    pub fn refused(self, refusal: Refusal) -> Refusal
-        ensures { result ≡ refusal }
+    pub fn refused(self, error: ParseError) -> ParseError
+        ensures { result ≡ error }
     {
         drop(self);
-        refusal
+        error
     }
 }

@@ -1,9 +1,10 @@
 //! Heights that trees may have.
 
-ghost use Rattle.std.specs.Prelude.{◌<◌, ◌≤◌};
+ghost use Rattle.std.specs.Prelude.{◌≡◌, ◌<◌, ◌≤◌, Some, true};
+ghost use Rattle.c_parse_expressions.specs.declared.parse_error.ParseError.TheVariants.{Fault as TooDeep};
 
-use crate::cursor::fault_at;
-use pcc_base::{FaultKind, Refusal, Span};
+use crate::parse_error::ParseError;
+use pcc_base::Span;
 
 /// How high a tree may be: so many nodes may stand one below the other, from 1 to 256.
 #[derive(Clone, Copy)]
@@ -14,9 +15,8 @@ pub struct Height {
 }
 
 impl Height {
-    ghost use Rattle.std.specs.Prelude.{◌≡◌, ◌-◌, ◌<◌, ◌≤◌, IfSome, IfNone, IfOk, IfErr, OnOk};
-    ghost use Rattle.pcc_base.specs.declared.refusal.Refusal.TheVariants.{Fault as Faulty};
-    ghost use Rattle.pcc_base.specs.declared.fault.FaultKind.TheVariants.{TooDeep};
+    ghost use Rattle.std.specs.Prelude.{◌≡◌, ◌-◌, ◌<◌, ◌≤◌, IfSome, IfNone, IfOk, IfErr, Some, true};
+    ghost use Rattle.c_parse_expressions.specs.declared.parse_error.ParseError.TheVariants.{Fault};
 
     /// The height of a whole unit.
     pub fn whole() -> Height
@@ -38,25 +38,39 @@ impl Height {
         })
     }
 
-    /// The height of what stands below a node of this height; where there is none, TooDeep at this place.
-    pub fn below(self, at: Span) -> Result<Height, Refusal>
+    /// The height of what stands below a node of this height; where there is none, the node is too deep at this place.
+    pub fn below(self, at: Span) -> Result<Height, ParseError>
         ensures ok { IfOk result (λ lower. (1 < self.levels) × (lower.levels ≡ self.levels - 1)) }
-        ensures err { IfErr result (λ e. (self.levels ≡ 1) × (e ≡ Faulty (record { kind = TooDeep; at = at }))) }
+        ensures err { IfErr result (λ e. (self.levels ≡ 1) × (e ≡ Fault true (Some at))) }
     {
         match self.lower() {
             Some(lower) => Ok(lower),
-            None => Err(fault_at(FaultKind::TooDeep, at)),
+            None => Err(too_deep(at)),
         }
     }
 
-    /// Refuses a node of this height above a part that is as high itself: TooDeep at this place.
-    pub fn above(self, part: u32, at: Span) -> Result<(), Refusal>
-        ensures ok { OnOk result (part < self.levels) }
-        ensures err { IfErr result (λ e. (self.levels ≤ part) × (e ≡ Faulty (record { kind = TooDeep; at = at }))) }
+    /// The height of what else stands below a node of this height above a part that is so high; where the node would be
+    /// higher, it is too deep at this place.
+    pub fn above(self, part: u32, at: Span) -> Result<Height, ParseError>
+        requires { 0 < part }
+        ensures ok { IfOk result (λ lower. (part < self.levels) × (lower.levels ≡ self.levels - 1)) }
+        ensures err { IfErr result (λ e. (self.levels ≤ part) × (e ≡ Fault true (Some at))) }
     {
         if part >= self.levels {
-            return Err(fault_at(FaultKind::TooDeep, at));
+            return Err(too_deep(at));
         }
-        Ok(())
+        Ok(Height {
+            levels: self.levels - 1,
+        })
+    }
+}
+
+/// The fault of a node that is too deep, at the place of its token.
+fn too_deep(at: Span) -> ParseError
+    ensures { result ≡ TooDeep true (Some at) }
+{
+    ParseError::Fault {
+        deep: true,
+        at: Some(at),
     }
 }

@@ -1,17 +1,14 @@
 -- Each call is for a lower height, or for the same height and a tighter rule.
-use Rattle.std.proofs.Common.{◌≡◌, ◌<◌, ◌≤◌, Some, length, ◌-◌, ◌+◌, ◌*◌}
+use Rattle.std.proofs.Common.{◌≡◌, ◌<◌, ◌≤◌, length, ◌-◌, ◌+◌, ◌*◌}
 use Rattle.c_syntax.specs.Expressions.{expr_of}
 use Rattle.c_syntax.specs.ExpressionTokens.{expr_height}
-use Rattle.c_grammar.specs.Chains.{chained}
+use Rattle.c_grammar.specs.Chains.{Found, chained}
 use Rattle.c_grammar.proofs.Chains.{Continues}
 use Rattle.c_grammar.specs.Reading.{read_expression, read_binary, read_postfix, read_arguments, infix_step}
-use Rattle.c_grammar.specs.Reading.{suffix_step, value_step}
+use Rattle.c_grammar.specs.Reading.{readers, suffix_step, value_step}
 use Rattle.c_parse_expressions.specs.ExpressionReadings.{below}
 use Rattle.c_parse_expressions.specs.Values.{values_of, height_of_values}
 use Rattle.c_parse_expressions.proofs.+expression.Given as goal
-
-abbrev pub decreases-expression::tree_below : goal.decreases-expression::tree_below
-decreases-expression::tree_below l = 32 * l.height.levels
 
 abbrev pub decreases-expression::tree_of : goal.decreases-expression::tree_of
 decreases-expression::tree_of l = 32 * l.height.levels + 24
@@ -62,7 +59,7 @@ abbrev pub decreases-primary::arguments : goal.decreases-primary::arguments
 decreases-primary::arguments l = 32 * l.height.levels + 2
 
 abbrev pub decreases-primary::value : goal.decreases-primary::value
-decreases-primary::value l = 32 * l.height.levels + 1
+decreases-primary::value l = 32 * l.lower.levels + 25
 
 abbrev pub decreases-primary::call_behind : goal.decreases-primary::call_behind
 decreases-primary::call_behind l = 32 * l.height.levels + 3
@@ -106,7 +103,7 @@ decreases-expression::expression-operators l = length l.cursor.rest.now
 abbrev pub invariant-expression::binary-levels : goal.invariant-expression::binary-levels
 invariant-expression::binary-levels l = record {
   reads : read_binary l.height.levels (below l.height.levels) l.reached l.fn.cursor.rest.now
-      ≡ Some (expr_of l.left.tree.value, l.cursor.rest.now);
+      ≡ Found (expr_of l.left.tree.value) l.cursor.rest.now;
   height : l.left.height ≡ expr_height (expr_of l.left.tree.value);
   within : (0 < l.left.height) × (l.left.height ≤ l.height.levels);
   shorter : length l.cursor.rest.now < length l.fn.cursor.rest.now;
@@ -144,10 +141,11 @@ decreases-primary::postfix-suffixes l = length l.cursor.rest.now
 
 abbrev pub invariant-primary::arguments-values : goal.invariant-primary::arguments-values
 invariant-primary::arguments-values l = record {
-  reads : Continues (value_step (below l.height.levels)) (values_of l.values) l.cursor.rest.now
-      (read_arguments (below l.height.levels) l.fn.cursor.rest.now);
+  reads : Continues (value_step (readers l.lower.levels)) (values_of l.values) l.cursor.rest.now
+      (read_arguments (readers l.lower.levels) l.fn.cursor.rest.now);
   height : l.values.height ≡ height_of_values l.values;
-  within : l.values.height < l.height.levels;
+  within : l.values.height ≤ l.lower.levels;
+  lower : (1 < l.fn.height.levels) × (l.lower.levels ≡ l.fn.height.levels - 1);
   shorter : length l.cursor.rest.now ≤ length l.fn.cursor.rest.now;
 }
 

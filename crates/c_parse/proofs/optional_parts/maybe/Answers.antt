@@ -1,10 +1,8 @@
 use Rattle.std.proofs.Common.{sym, ◌∙◌}
 use Rattle.std.proofs.lemmas.Result.{err_from_is_err_and}
 use Rattle.c_syntax.specs.Expressions.{expr_of}
-use Rattle.c_parse_expressions.proofs.Refused.{refused_fault}
-use Rattle.c_parse_expressions.proofs.Turns.{none_below}
 use Rattle.c_parse_expressions.specs.ExpressionReadings.{below, reader_of}
-use Rattle.c_parse.proofs.Listing.{maybe_none, maybe_closed, maybe_reads, maybe_refused}
+use Rattle.c_parse.proofs.Listing.{maybe_closed, maybe_reads, maybe_refused, maybe_too_low}
 use Rattle.c_parse.proofs.optional_parts.maybe.Goals as goal
 
 pub returns-then-at_mark : goal.returns-then-at_mark
@@ -14,10 +12,8 @@ returns-then-at_mark c =
 
 pub returns-in_default : goal.returns-in_default
 returns-in_default c =
-    refused_fault _ _ _ (maybe_none (reader_of c.args.rule (below c.args.height.levels)) c.args.close
-    c.args.cursor.now.rest.now (sym c.at_mark.ensures ∙ c.if-at_mark.false)
-    (none_below c.args.rule c.args.height.levels c.args.cursor.now.rest.now c.in_default.ensures.none))
-    c.no_height.ensures
+    maybe_too_low c.args.rule c.args.close c.args.height.levels c.args.cursor.now.rest.now _ c.in_default.ensures.none
+    (sym c.at_mark.ensures ∙ c.if-at_mark.false) c.no_height.ensures
 
 pub returns-in_err-found : goal.returns-in_err-found
 returns-in_err-found c =

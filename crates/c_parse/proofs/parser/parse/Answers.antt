@@ -1,5 +1,7 @@
-use Rattle.std.proofs.Common.{sym}
-use Rattle.c_parse.proofs.Trees.{tree_is, no_tree}
+use Rattle.std.proofs.Common.{sym, subst}
+use Rattle.pcc_base.specs.declared.fault.Fault.{Fault}
+use Rattle.c_parse.specs.ParserRefusals.{IsFaulty}
+use Rattle.c_parse.proofs.Trees.{tree_is, fault_is}
 use Rattle.c_parse.proofs.parser.parse.Goals as goal
 
 pub returns-in-Ok-clause-tree : goal.returns-in-Ok-clause-tree
@@ -9,5 +11,7 @@ returns-in-Ok-clause-tree c =
 
 pub returns-in-Err-Fault-clause-refused : goal.returns-in-Err-Fault-clause-refused
 returns-in-Err-Fault-clause-refused c =
-    rw (sym c.as_slice-tokens.ensures.value) (c.fault_of.ensures _ c.in_default.ensures.none
-    (no_tree _ (rw (c.in-Err-Fault.field-0-is, c.whole.ensures) at c.in-Err-Fault.ensures.reads)))
+    let ts = c.as_slice-tokens.result.now in
+    rw (sym c.as_slice-tokens.ensures.value) (subst (λ (f : Fault). IsFaulty ts c.args.end f.kind f.at)
+    (sym c.fault_of.ensures) (fault_is ts c.args.end c.in-Err-Fault.deep c.in-Err-Fault.at c.in_default.ensures.none
+    (rw (c.whole.ensures, c.in-Err-Fault.field-0-is) at c.in-Err-Fault.ensures.reads)))

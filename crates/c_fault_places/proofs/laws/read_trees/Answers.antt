@@ -1,6 +1,0 @@
-use Rattle.c_fault_places.proofs.SoundStatements.{unit_sound}
-use Rattle.c_fault_places.proofs.StatementComplete.{tree_read}
-use Rattle.c_fault_places.proofs.laws.read_trees.Goals as goal
-
-pub returns : goal.returns
-returns c = record { sound = unit_sound; complete = tree_read }

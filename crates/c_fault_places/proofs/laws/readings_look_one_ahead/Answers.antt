@@ -1,5 +1,0 @@
-use Rattle.c_fault_places.proofs.AheadStatements.{unit_ahead}
-use Rattle.c_fault_places.proofs.laws.readings_look_one_ahead.Goals as goal
-
-pub returns : goal.returns
-returns c = unit_ahead

@@ -1,0 +1,1 @@
+use Rattle.c_parse.proofs.externals.external.Goals as goal
