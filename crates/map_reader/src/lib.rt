@@ -1,7 +1,8 @@
 //! Texts of maps, read line by line.
 //!
-//! In go the words of a line, out comes the line (`read_line`), as `line_in` of `map_text` reads it. `specs/Views.antt`
-//! says which line of the definition a line in memory is.
+//! In goes a text, out comes the map whose text it is, or that there is none (`read_map`). In go the words of a line, out
+//! comes the line (`read_line`), as `line_in` of `map_text` reads it. `specs/Views.antt` says which line of the definition
+//! a line in memory is.
 #![tactic(auto)]
 
 mod fields;
