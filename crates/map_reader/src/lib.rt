@@ -1,7 +1,8 @@
 //! Texts of maps, read line by line.
 //!
-//! In go the words of a line, out comes the line (`read_line`), as `line_in` of `map_text` reads it. `specs/Views.antt`
-//! says which line of the definition a line in memory is.
+//! In goes a text, out comes the map whose text it is, or that there is none (`read_map`). In go the words of a line, out
+//! comes the line (`read_line`), as `line_in` of `map_text` reads it. `specs/Views.antt` says which line of the definition
+//! a line in memory is.
 #![tactic(auto)]
 
 mod fields;
@@ -12,6 +13,7 @@ mod numbers;
 mod ops;
 mod places;
 mod reading;
+mod refusal;
 mod tree;
 mod whole;
 mod words;
@@ -19,5 +21,6 @@ mod words;
 pub use line::Line;
 pub use lines::read_line;
 pub use reading::read_front;
-pub use whole::read_text;
+pub use refusal::MapRefusal;
+pub use whole::read_map;
 pub use words::words_of;

@@ -1,65 +1,38 @@
-//! A text read, printed again, and compared.
+//! A text read, judged by the rules of a map, printed again, and compared.
 
-ghost use Rattle.std.specs.Prelude.{◌≡◌, IfOk, IfSome, Some, option_map};
-ghost use Rattle.std.specs.Bool.{Decides};
+ghost use Rattle.std.specs.Prelude.{◌≡◌, IfOk, IsErrOf};
 ghost use Rattle.map_text.specs.Maps.{Map};
 ghost use Rattle.map_text.specs.Rules.{IsMap};
 ghost use Rattle.map_text.specs.Words.{map_text};
-ghost use Rattle.map_file.specs.Numbered.{HasNumberedParts, IsNumbered};
-ghost use Rattle.map_file.specs.Views.{function_of, map_of};
+ghost use Rattle.map_file.specs.Views.{map_of};
+ghost use Rattle.map_reader.specs.declared.refusal.MapRefusal.TheVariants as refusal;
 
 use crate::reading::read_front;
-use map_file::{MapFile, MapFunction, maps_are_numbered, print_map};
-use map_text::map_is_read;
-use pcc_base::NoMemory;
+use crate::refusal::MapRefusal;
+use map_file::{MapFile, is_map, maps_are_numbered, print_map};
+use map_text::{map_is_read, one_whole_map};
 use std::alloc::Global;
 
-/// How many numbers of 32 bits there are.
-const NUMBERS: usize = 4294967296;
-
-/// Whether the parts of a function are few enough to have numbers of 32 bits.
-fn has_numbered_parts(function: &MapFunction) -> bool
-    ensures { Decides result (HasNumberedParts (function_of function.now)) }
-{
-    function.arrays.len() <= NUMBERS
-        && function.vars.len() <= NUMBERS
-        && function.blocks.len() <= NUMBERS
-}
-
-/// Whether the parts of a map are few enough to have numbers of 32 bits.
-fn is_numbered(map: &MapFile) -> bool
-    ensures { Decides result (IsNumbered (map_of map.now)) }
-{
-    if map.objects.len() > NUMBERS || map.functions.len() > NUMBERS {
-        return false;
-    }
-    for function in map.functions.iter() {
-        if !has_numbered_parts(function) {
-            return false;
-        }
-    }
-    true
-}
-
-/// The tree whose text a text is, if it is that of one. The text of a map is read as that map. Whether the tree keeps the
-/// rules of a map is not judged. The only refusal is want of memory.
-pub fn read_text(alloc: Global, text: &[u8]) -> Result<Option<MapFile>, NoMemory>
-    ensures printed { IfOk result (λ read. IfSome read (λ map. map_text (map_of map) ≡ text.now)) }
-    ensures map { IfOk result (λ read.
-        (m : Map) → IsMap m → map_text m ≡ text.now → option_map map_of read ≡ Some m) }
+/// The map whose text a text is. It is refused as that of no map exactly where it is that of no map.
+pub fn read_map(alloc: Global, text: &[u8]) -> Result<MapFile, MapRefusal>
+    ensures map { IfOk result (λ map. IsMap (map_of map) × (map_text (map_of map) ≡ text.now)) }
+    ensures printed { (m : Map) → IsMap m → map_text m ≡ text.now → IfOk result (λ map. map_of map ≡ m) }
+    ensures not_map { IsErrOf result refusal.NotMap → (m : Map) → IsMap m → map_text m ≡ text.now → ⊥ }
 {
     map_is_read();
+    one_whole_map();
     maps_are_numbered();
     let Some(map) = read_front(alloc, text)? else {
-        return Ok(None);
+        return Err(MapRefusal::NotMap);
     };
-    if !is_numbered(&map) {
-        return Ok(None);
+    let keeps_rules = is_map(alloc, &map)?;
+    if !keeps_rules {
+        return Err(MapRefusal::NotMap);
     }
     let printed = print_map(alloc, &map)?;
     if printed.as_slice() == text {
-        Ok(Some(map))
+        Ok(map)
     } else {
-        Ok(None)
+        Err(MapRefusal::NotMap)
     }
 }

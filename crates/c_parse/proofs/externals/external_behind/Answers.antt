@@ -19,9 +19,9 @@ returns c =
     let is : external_behind b c.args.specifiers.items d ts
     ≡ then_read (declaration_behind b.exprs c.args.specifiers.items d ts) (λ x us. Found (DeclaredTree x) us) = elim c.else-is_function.branch [
       | else-is_function-via-then-is_function+else-at_mark w ↦
-        declared_is b c.args.specifiers.items d ts (inr (sym w.at_mark.ensures ∙ w.if-at_mark.false))
+          declared_is b c.args.specifiers.items d ts (inr (sym w.at_mark.ensures ∙ w.if-at_mark.false))
       | else-is_function-via-else-is_function w ↦
-        declared_is b c.args.specifiers.items d ts (inl (sym c.is_function.ensures ∙ w.if-is_function.false))
+          declared_is b c.args.specifiers.items d ts (inl (sym c.is_function.ensures ∙ w.if-is_function.false))
     ] in
     same_read external_of (external_behind b c.args.specifiers.items d)
     (λ us. then_read (declaration_behind b.exprs c.args.specifiers.items d us) (λ x vs. Found (DeclaredTree x) vs)) ts _
