@@ -1,16 +1,13 @@
 -- The readers of what stands below a node, by its height.
-use Rattle.std.proofs.Common.{◌≡◌, ℕ, zero, suc, ◌-◌, ◌<◌, Bool, true, List, [], ◌∷◌, length, Some, refl, ap, sym, ◌∙◌}
+use Rattle.std.proofs.Common.{◌≡◌, ℕ, zero, suc, ◌-◌, ◌<◌, true, List, [], ◌∷◌, length, Some, refl, ap, sym, ◌∙◌}
 use Rattle.std.proofs.Common.{arith, subst, Result, Ok, Err}
-use Rattle.pcc_base.specs.declared.keyword.Keyword.TheVariants as words
-use Rattle.pcc_base.specs.declared.span.Span.{Span}
 use Rattle.c_lex.specs.declared.token.Token.{Token}
-use Rattle.c_syntax.specs.Marks.{word}
 use Rattle.c_syntax.specs.Declarations.{DeclarationTree}
 use Rattle.c_syntax.specs.Statements.{LabelTree, Declared, Labelled}
 use Rattle.c_grammar.specs.Chains.{Reads, Found, Faults, room, then_read}
 use Rattle.c_grammar.proofs.Chains.{above_low}
 use Rattle.c_grammar.specs.Taking.{take_specifiers}
-use Rattle.c_grammar.specs.Reading.{Reader, no_reader, readers}
+use Rattle.c_grammar.specs.Reading.{readers}
 use Rattle.c_grammar.proofs.Reading.{readers-none}
 use Rattle.c_grammar.specs.DeclarationReading.{read_declaration}
 use Rattle.c_grammar.specs.StatementReading as reading
@@ -18,12 +15,9 @@ use Rattle.c_grammar.specs.StatementReading.{Below, below_of, read_statement, re
 use Rattle.c_grammar.specs.StatementReading.{read_labelled, if_behind, while_behind, do_behind, for_behind}
 use Rattle.c_grammar.specs.StatementReading.{switch_behind}
 use Rattle.c_grammar.proofs.StatementReading.{below_of-none, below_of-suc, below_above}
-use Rattle.c_parse_expressions.specs.Places.{front_place, front_begins}
+use Rattle.c_parse_expressions.specs.Places.{front_place}
 use Rattle.c_parse_expressions.specs.Readings.{IsRead, IsPartRead, Refused}
 use Rattle.c_parse_expressions.specs.Fronts.{BeginsWithSpecifier}
-use Rattle.c_parse_expressions.specs.ExpressionReadings.{below, reader_of}
-use Rattle.c_parse_expressions.specs.declared.expression.Rule.{Rule}
-use Rattle.c_parse_expressions.specs.declared.expression.Rule.TheVariants as rules_of
 use Rattle.c_parse_expressions.specs.declared.parse_error.ParseError.{ParseError}
 use Rattle.c_parse_expressions.specs.declared.parse_error.ParseError.TheVariants.{Fault}
 use Rattle.c_parse_expressions.proofs.Refused.{refused_before}

@@ -1,5 +1,5 @@
 -- What the turns of the loop over external declarations read in all.
-use Rattle.std.proofs.Common.{◌≡◌, ◌<◌, ◌==◌, true, false, List, [], ◌∷◌, ◌++◌, map, length, Bool, Option, Some, None, refl, subst}
+use Rattle.std.proofs.Common.{◌≡◌, ◌<◌, ◌==◌, true, false, List, [], ◌∷◌, ◌++◌, map, length, Bool, Some, None, refl, subst}
 use Rattle.std.proofs.Common.{◌⊎◌, inl, inr, is_some, arith}
 use Rattle.pcc_base.specs.declared.span.Span.{Span}
 use Rattle.c_lex.specs.declared.token.Punct.TheVariants as marks

@@ -4,7 +4,7 @@ use Rattle.pcc_base.specs.declared.span.Span.{Span}
 use Rattle.c_lex.specs.declared.token.Token.{Token}
 use Rattle.c_lex.specs.declared.token.Punct.TheVariants as marks
 use Rattle.c_syntax.specs.Marks.{mark}
-use Rattle.c_syntax.specs.Declarations.{InitialiserTree, ValueTree}
+use Rattle.c_syntax.specs.Declarations.{InitialiserTree}
 use Rattle.c_grammar.specs.Chains.{Goes, Done, Reads, Found, then_read}
 use Rattle.c_grammar.proofs.Chains.{Continues, continues_goes, continues_done}
 use Rattle.c_grammar.specs.Taking.{take_mark}

@@ -1,5 +1,5 @@
 -- What the turns of a loop over a list read in all.
-use Rattle.std.proofs.Common.{◌≡◌, ◌<◌, ◌≤◌, ◌-◌, ℕ, List, [], ◌∷◌, ◌++◌, map, length, true, false, is_some, Bool}
+use Rattle.std.proofs.Common.{◌≡◌, ◌<◌, ◌≤◌, ◌-◌, ℕ, List, [], ◌∷◌, ◌++◌, map, length, true, false, is_some}
 use Rattle.std.proofs.Common.{Some, None, refl, ap, ◌∙◌, subst, arith}
 use Rattle.pcc_base.specs.declared.span.Span.{Span}
 use Rattle.c_lex.specs.declared.token.Token.{Token}
@@ -7,7 +7,7 @@ use Rattle.c_lex.specs.declared.token.Punct.{Punct}
 use Rattle.c_lex.specs.declared.token.Punct.TheVariants as marks
 use Rattle.c_syntax.specs.Expressions.{Expr}
 use Rattle.c_syntax.specs.Declarations.{ParameterTree}
-use Rattle.c_grammar.specs.Chains.{Step, Done, Fails, Goes, Takes, Reads, Found, Faults}
+use Rattle.c_grammar.specs.Chains.{Step, Done, Fails, Goes, Takes, Reads, Found}
 use Rattle.c_grammar.proofs.Chains.{Continues, continues_start}
 use Rattle.c_grammar.proofs.Chains.{continues_goes, continues_done, continues_fails}
 use Rattle.c_grammar.specs.Taking.{take_mark}

@@ -6,7 +6,7 @@ use Rattle.pcc_base.specs.declared.fault.FaultKind.TheVariants.{Syntax, TooDeep}
 use Rattle.c_lex.specs.declared.token.Token.{Token}
 use Rattle.c_syntax.specs.Statements.{ExternalTree}
 use Rattle.c_syntax.specs.Grammar.{Tree}
-use Rattle.c_grammar.specs.Chains.{Reads, Found, Faults}
+use Rattle.c_grammar.specs.Chains.{Found}
 use Rattle.c_grammar.specs.StatementReading.{Below, below_of, read_unit}
 use Rattle.c_grammar.proofs.Exact.{exact}
 use Rattle.c_grammar.proofs.SoundStatements.{unit_sound}
@@ -15,7 +15,7 @@ use Rattle.c_parse_expressions.specs.Readings.{Refused}
 use Rattle.c_parse_expressions.specs.declared.parse_error.ParseError.TheVariants.{Fault}
 use Rattle.c_parse.specs.StatementParts.{fields_of, below_node}
 use Rattle.c_parse.proofs.Below.{fields_are}
-use Rattle.c_parse.specs.ParserRefusals.{NoneUnsupported, IsFaulty, FailsAt, next_place}
+use Rattle.c_parse.specs.ParserRefusals.{NoneUnsupported, IsFaulty, next_place}
 
 same_reads : (n : ℕ) (ts : List Token) → read_unit (below_of n) ts ≡ read_unit (fields_of n) ts
 same_reads n ts = ap (λ (b : Below). read_unit b ts) (sym (fields_are n))

@@ -1,1 +1,0 @@
-use Rattle.c_parse.proofs.externals.external.Goals as goal
