@@ -1,22 +1,25 @@
 -- What the turns of the loop over external declarations read in all.
-use Rattle.std.proofs.Common.{◌≡◌, ◌<◌, ◌==◌, true, false, List, [], ◌∷◌, ◌++◌, map, length, Bool, Some, None, refl, subst}
-use Rattle.std.proofs.Common.{◌⊎◌, inl, inr, is_some, arith}
+use Rattle.std.proofs.Common.{◌≡◌, ◌<◌, ◌==◌, true, false, List, [], ◌∷◌, ◌++◌, map, length, Bool, Some, None, is_some, refl, subst, ◌∙◌}
+use Rattle.std.proofs.Common.{arith}
+use Rattle.std.proofs.lemmas.Bool.{eqb-true}
 use Rattle.pcc_base.specs.declared.span.Span.{Span}
+use Rattle.c_lex.specs.declared.token.Token.{Token}
+use Rattle.c_syntax.specs.declared.unit.External.{External}
 use Rattle.c_lex.specs.declared.token.Punct.TheVariants as marks
 use Rattle.c_syntax.specs.declared.expression.Specifier.{Specifier}
 use Rattle.c_syntax.specs.Declarations.{DeclaratorTree}
-use Rattle.std.proofs.lemmas.Bool.{eqb-true}
-use Rattle.c_lex.specs.declared.token.Token.{Token}
-use Rattle.c_syntax.specs.declared.unit.External.{External}
 use Rattle.c_syntax.specs.Statements.{ExternalTree, DeclaredTree, external_of}
 use Rattle.c_grammar.specs.Chains.{Done, Fails, Goes, Takes, Reads, Found, Faults, then_read}
 use Rattle.c_grammar.proofs.Chains.{Continues, continues_goes, continues_done, continues_fails}
-use Rattle.c_grammar.specs.StatementReading.{Below, external_behind, external_from, has_parameters, read_external, unit_step}
-use Rattle.c_grammar.specs.DeclarationReading.{declaration_behind}
 use Rattle.c_grammar.specs.Taking.{take_mark}
+use Rattle.c_grammar.specs.DeclarationReading.{read_declarator, declaration_behind}
+use Rattle.c_grammar.specs.StatementReading.{Below, external_behind, external_from, has_parameters, read_external}
+use Rattle.c_grammar.specs.StatementReading.{unit_step}
 use Rattle.c_parse_expressions.specs.Readings.{Refused}
 use Rattle.c_parse_expressions.specs.declared.parse_error.ParseError.{ParseError}
 use Rattle.c_parse_expressions.specs.declared.parse_error.ParseError.TheVariants.{Fault, NoMemory}
+use Rattle.c_parse_expressions.proofs.Refused.{refused_so, refused_then}
+use Rattle.c_parse.specs.DeclarationParts.{AreSpecifiers}
 use Rattle.c_parse.proofs.Listing.{map_push}
 
 goes_at : (b : Below) (a : List ExternalTree) (ts : List Token) (e : ExternalTree) (us : List Token) → (length ts == 0)
@@ -62,16 +65,44 @@ pub unit_last : (b : Below) (a : List ExternalTree) (ts : List Token) (out : Rea
 unit_last b a ts out before e =
     (let done : unit_step b a ts ≡ Done = rw (empty_is ts e) refl in continues_done (unit_step b) a ts out before done)
 
-no_function : (b : Below) (ss : List Specifier) (d : DeclaratorTree) (f : Bool) (open_brace : Takes Span)
-    (ts : List Token) → (f ≡ false) ⊎ (is_some open_brace ≡ false) → external_from b ss d f open_brace ts
-    ≡ then_read (declaration_behind b.exprs ss d ts) (λ x us. Found (DeclaredTree x) us)
-no_function b ss d false open_brace ts e = refl
-no_function b ss d true None ts e = refl
-no_function b ss d true (Some o) ts (inl e) = absurd (let wrong : true ≡ false = e in cc)
-no_function b ss d true (Some o) ts (inr e) = absurd (let wrong : true ≡ false = e in cc)
+-- ---- a declaration behind its first declarator, where no function goes on
 
--- what is no function with a body is a declaration
-pub declared_is : (b : Below) (ss : List Specifier) (d : DeclaratorTree) (ts : List Token)
-    → (has_parameters d.part ≡ false) ⊎ (is_some (take_mark marks.LeftBrace ts) ≡ false) → external_behind b ss d ts
+no_parameters : (b : Below) (ss : List Specifier) (d : DeclaratorTree) (function : Bool) (brace : Takes Span)
+    (ts : List Token) → function ≡ false
+    → external_from b ss d function brace ts
     ≡ then_read (declaration_behind b.exprs ss d ts) (λ x us. Found (DeclaredTree x) us)
-declared_is b ss d ts e = no_function b ss d (has_parameters d.part) (take_mark marks.LeftBrace ts) ts e
+no_parameters b ss d true brace ts e = absurd (let no : true ≡ false = e in cc)
+no_parameters b ss d false None ts e = refl
+no_parameters b ss d false (Some brace) ts e = refl
+
+no_brace : (b : Below) (ss : List Specifier) (d : DeclaratorTree) (function : Bool) (brace : Takes Span)
+    (ts : List Token) → is_some brace ≡ false
+    → external_from b ss d function brace ts
+    ≡ then_read (declaration_behind b.exprs ss d ts) (λ x us. Found (DeclaredTree x) us)
+no_brace b ss d true None ts e = refl
+no_brace b ss d false None ts e = refl
+no_brace b ss d function (Some brace) ts e = absurd (let no : true ≡ false = e in cc)
+
+external_is : (b : Below) (ts mid us : List Token) (items : List Specifier) (d : DeclaratorTree)
+    → AreSpecifiers ts mid items → read_declarator b.exprs mid ≡ Found d us
+    → read_external b ts ≡ external_behind b items d us
+external_is b ts mid us items d specifiers reads = rw (specifiers.2, specifiers.3, reads) refl
+
+-- the declarator is no function's
+pub unlike_function : (b : Below) (ts mid us : List Token) (items : List Specifier) (d : DeclaratorTree) (e : ParseError)
+    → AreSpecifiers ts mid items → read_declarator b.exprs mid ≡ Found d us → has_parameters d.part ≡ false
+    → Refused (declaration_behind b.exprs items d us) e → Refused (read_external b ts) e
+unlike_function b ts mid us items d e specifiers reads plain r =
+    refused_so _ _ e (external_is b ts mid us items d specifiers reads
+    ∙ no_parameters b items d (has_parameters d.part) (take_mark marks.LeftBrace us) us plain)
+    (refused_then _ _ e r)
+
+-- no block comes
+pub without_block : (b : Below) (ts mid us : List Token) (items : List Specifier) (d : DeclaratorTree) (e : ParseError)
+    → AreSpecifiers ts mid items → read_declarator b.exprs mid ≡ Found d us
+    → is_some (take_mark marks.LeftBrace us) ≡ false
+    → Refused (declaration_behind b.exprs items d us) e → Refused (read_external b ts) e
+without_block b ts mid us items d e specifiers reads none r =
+    refused_so _ _ e (external_is b ts mid us items d specifiers reads
+    ∙ no_brace b items d (has_parameters d.part) (take_mark marks.LeftBrace us) us none)
+    (refused_then _ _ e r)

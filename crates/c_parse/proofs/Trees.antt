@@ -2,6 +2,7 @@
 use Rattle.std.proofs.Common.{◌≡◌, ℕ, ◌+◌, ◌≤◌, Bool, true, false, List, [], ◌∷◌, Option, Some, None, ap, sym, ◌∙◌, arith}
 use Rattle.std.proofs.Common.{if◌then◌else◌, refl, unwrap_or}
 use Rattle.pcc_base.specs.declared.span.Span.{Span}
+use Rattle.pcc_base.specs.declared.fault.FaultKind.{FaultKind}
 use Rattle.pcc_base.specs.declared.fault.FaultKind.TheVariants.{Syntax, TooDeep}
 use Rattle.c_lex.specs.declared.token.Token.{Token}
 use Rattle.c_syntax.specs.Statements.{ExternalTree}
@@ -39,12 +40,12 @@ placed (t ∷ ts) end None e = absurd (let no : Some t.at ≡ None = e in cc)
 placed (t ∷ ts) end (Some at) e = (let is : Some t.at ≡ Some at = e in cc)
 
 -- where the reading fails, the fault stands at the next token or at the end
-pub fault_is : (ts : List Token) (end : Span) (deep : Bool) (at : Option Span) → NoneUnsupported ts
-    → Refused (read_unit (below_node 256) ts) (Fault deep at)
-    → IsFaulty ts end (if deep then TooDeep else Syntax) (unwrap_or at end)
-fault_is ts end true at none r =
+pub fault_is : (ts : List Token) (end : Span) (deep : Bool) (at : Option Span) (kind : FaultKind)
+    → kind ≡ (if deep then TooDeep else Syntax) → NoneUnsupported ts
+    → Refused (read_unit (below_node 256) ts) (Fault deep at) → IsFaulty ts end kind (unwrap_or at end)
+fault_is ts end true at kind is none r =
     (let s = exact 255 ts true r.0 (same_reads 255 ts ∙ r.1) in
-    (none, (s.0, r.0, s.1, s.2, placed r.0 end at r.2)))
-fault_is ts end false at none r =
+    rw is (none, (s.0, r.0, s.1, s.2, placed r.0 end at r.2)))
+fault_is ts end false at kind is none r =
     (let s = exact 255 ts false r.0 (same_reads 255 ts ∙ r.1) in
-    (none, (s.0, r.0, s.1, s.2, placed r.0 end at r.2)))
+    rw is (none, (s.0, r.0, s.1, s.2, placed r.0 end at r.2)))

@@ -3,9 +3,8 @@
 ghost use Rattle.std.specs.Prelude.{◌≡◌, [], IfOk};
 ghost use Rattle.c_grammar.specs.Chains.{Found, then_read};
 ghost use Rattle.c_syntax.specs.Declarations.{declarator_of, part_of};
-ghost use Rattle.c_syntax.specs.Statements.{external_of, unit_of, DeclaredTree, FunctionTree};
-ghost use Rattle.c_grammar.specs.StatementReading.{external_behind, has_parameters, read_external, read_unit};
-ghost use Rattle.c_grammar.specs.DeclarationReading.{declaration_behind};
+ghost use Rattle.c_syntax.specs.Statements.{external_of, unit_of, FunctionTree};
+ghost use Rattle.c_grammar.specs.StatementReading.{has_parameters, read_external, read_unit};
 ghost use Rattle.c_parse_expressions.specs.Readings.{IsRead, IsPartRead};
 ghost use Rattle.c_parse.specs.StatementParts.{below_node};
 
@@ -52,39 +51,6 @@ fn function_behind(
     }
 }
 
-/// A declaration, behind its specifiers and its first declarator
-fn declared_behind(
-    cursor: &mut Cursor<'_>,
-    specifiers: Vec<Specifier>,
-    declarator: Declarator,
-    height: Height,
-) -> Result<External, ParseError>
-    ensures { IsRead external_of (λ ts. then_read
-        (declaration_behind (below_node height.levels).exprs specifiers.items (declarator_of declarator) ts)
-        (λ d us. Found (DeclaredTree d) us))
-        cursor.old.rest.now cursor.new.rest.now result }
-{
-    let declaration = declaration_behind(cursor, specifiers, declarator, height)?;
-    Ok(External::Declaration(declaration))
-}
-
-/// `block` behind the declarator of a function, or what else of a declaration stands behind its first declarator
-fn external_behind(
-    cursor: &mut Cursor<'_>,
-    specifiers: Vec<Specifier>,
-    declarator: Declarator,
-    height: Height,
-) -> Result<External, ParseError>
-    ensures { IsRead external_of
-        (external_behind (below_node height.levels) specifiers.items (declarator_of declarator))
-        cursor.old.rest.now cursor.new.rest.now result }
-{
-    if is_function(&declarator.part) && cursor.at_mark(Punct::LeftBrace) {
-        return function_behind(cursor, specifiers, declarator, height);
-    }
-    declared_behind(cursor, specifiers, declarator, height)
-}
-
 /// `external : specifiers pointer? ident '(' parameters? ')' block | declaration` (C99 6.9), in a unit with
 /// nodes of less than this height and such a declaration
 fn external(cursor: &mut Cursor<'_>, height: Height) -> Result<External, ParseError>
@@ -93,7 +59,11 @@ fn external(cursor: &mut Cursor<'_>, height: Height) -> Result<External, ParseEr
 {
     let specifiers = some_specifiers(cursor)?;
     let declarator = declarator(cursor, height)?;
-    external_behind(cursor, specifiers, declarator, height)
+    if is_function(&declarator.part) && cursor.at_mark(Punct::LeftBrace) {
+        return function_behind(cursor, specifiers, declarator, height);
+    }
+    let declaration = declaration_behind(cursor, specifiers, declarator, height)?;
+    Ok(External::Declaration(declaration))
 }
 
 /// `unit : external*`, to the end of the tokens, of at most this height

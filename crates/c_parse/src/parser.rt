@@ -1,5 +1,4 @@
-ghost use Rattle.std.specs.Prelude.{◌≡◌, ◌≤◌, ℕ, IfOk, IfErr, if◌then◌else◌, unwrap_or};
-ghost use Rattle.pcc_base.specs.declared.fault.FaultKind.TheVariants.{Syntax, TooDeep};
+ghost use Rattle.std.specs.Prelude.{◌≤◌, ℕ, IfOk, IfErr};
 ghost use Rattle.c_syntax.specs.Grammar.{Tree};
 ghost use Rattle.c_syntax.specs.Statements.{unit_of};
 ghost use Rattle.c_parse.specs.ParserRefusals.{IsRefused, NoneUnsupported};
@@ -11,21 +10,6 @@ use c_parse_expressions::{Cursor, Height, ParseError};
 use c_syntax::RawUnit;
 use pcc_base::{Fault, FaultKind, Refusal, Span};
 use std::alloc::Global;
-
-/// A fault of this place, or of the end where it has none.
-fn fault_of(deep: bool, at: Option<Span>, end: Span) -> Fault
-    ensures { result ≡ record { kind = if deep then TooDeep else Syntax; at = unwrap_or at end } }
-{
-    let kind = if deep {
-        FaultKind::TooDeep
-    } else {
-        FaultKind::Syntax
-    };
-    Fault {
-        kind,
-        at: at.unwrap_or(end),
-    }
-}
 
 /// The one raw tree of the tokens, of height at most 256. The end is the place behind the last token: there
 /// stands a fault at the end of the file. A fault stands at the first token with which the tokens before it begin no
@@ -48,7 +32,14 @@ pub fn parse(alloc: Global, tokens: &Vec<Token>, end: Span) -> Result<RawUnit, R
     };
     match unit(&mut cursor, Height::whole()) {
         Ok(unit) => Ok(unit),
-        Err(ParseError::Fault { deep, at }) => Err(Refusal::Fault(fault_of(deep, at, end))),
+        Err(ParseError::Fault { deep, at }) => Err(Refusal::Fault(Fault {
+            kind: if deep {
+                FaultKind::TooDeep
+            } else {
+                FaultKind::Syntax
+            },
+            at: at.unwrap_or(end),
+        })),
         Err(ParseError::NoMemory) => Err(Refusal::NoMemory),
     }
 }
