@@ -1,4 +1,5 @@
 pub mod OneReading
+pub mod OneFault
 pub mod Reading
 pub mod Totals
 pub mod Units

@@ -1,7 +1,9 @@
 -- Texts have one answer: a typed program, a fault, or a limit.
-use Rattle.std.proofs.Common.{◌≡◌, refl, sym, ap, subst, ◌∙◌, ℕ, List, [], inl, inr, arith}
+use Rattle.std.proofs.Common.{◌≡◌, refl, sym, ap, ap₂, subst, ◌∙◌, ℕ, List, [], inl, inr, arith}
 use Rattle.std.specs.Prelude.{◌⊎◌, Option, Some, None, slice_get}
+use Rattle.pcc_base.specs.declared.span.Span.{Span}
 use Rattle.pcc_base.specs.declared.fault.Fault.{Fault}
+use Rattle.pcc_base.specs.declared.fault.FaultKind.{FaultKind}
 use Rattle.pcc_base.specs.declared.refusal.Limit.{Limit}
 use Rattle.pcc_base.specs.declared.refusal.Limit.TheVariants as limits
 use Rattle.c_lex.specs.declared.token.Token.{Token}
@@ -11,7 +13,8 @@ use Rattle.c_typing.specs.Typed.{IsAbove, IsAccepted, IsLeastFault}
 use Rattle.c_typing.proofs.OneProgram.{one_typed_program}
 use Rattle.c_check.proofs.OneAnswer.{one_answer}
 use Rattle.c_front.specs.Accepted.{HaveTrees}
-use Rattle.c_front.specs.Refusals.{FirstFaulty, HaveLexicalFault, HaveManyTokens, WithTokens, first_place}
+use Rattle.c_front.specs.Refusals.{FirstFaulty, HaveLexicalFault, HaveManyTokens, WithTokens, ends_of, first_place}
+use Rattle.c_front.proofs.OneFault.{lexical_once, syntax_once}
 use Rattle.c_front.proofs.OneReading.{lexical_or_limit, no_lexical, stand_fewer, tokens_once, trees_once, trees_or_fault}
 use Rattle.c_front.specs.Answers.{Exceed, Excess, ManyTokens, LargeArrays, LargeFrame, HaveFault, HaveLargeFrame}
 use Rattle.c_front.specs.Answers.{HaveTypedProgram, end_of}
@@ -34,10 +37,10 @@ no_early_fault : (texts : List (List ℕ)) (units : List (List ExternalTree)) (f
 no_early_fault texts units fault have (n, behind, few) = no_lexical 0 texts n fault have.files behind have.tokens
 
 no_syntax_fault : (texts : List (List ℕ)) (units : List (List ExternalTree)) (fault : Fault) → HaveUnits texts units
-    → WithTokens texts (λ files. FirstFaulty 0 files fault.kind fault.at) → ⊥
+    → WithTokens texts (λ files. FirstFaulty files (ends_of 0 texts) fault.kind fault.at) → ⊥
 no_syntax_fault texts units fault have (files, lexed, few, faulty) =
-    trees_or_fault 0 have.files units fault.kind fault.at have.trees
-    (subst (λ (fs : List (List Token)). FirstFaulty 0 fs fault.kind fault.at)
+    trees_or_fault have.files (ends_of 0 texts) units fault.kind fault.at have.trees
+    (subst (λ (fs : List (List Token)). FirstFaulty fs (ends_of 0 texts) fault.kind fault.at)
     (tokens_once 0 texts files have.files lexed have.tokens) faulty)
 
 not_many : (texts : List (List ℕ)) (units : List (List ExternalTree)) → HaveUnits texts units → HaveManyTokens texts → ⊥
@@ -90,7 +93,7 @@ told_frame units name bytes h = record {
 told_once : (units : List (List ExternalTree)) (a b : Excess) → AreTold units a → AreTold units b → a ≡ b
 told_once units a b h g =
     let limit : h.limit ≡ g.limit =
-    (one_answer units first_place).0.limit h.limit g.limit h.above g.above in
+    (one_answer units (first_place 0)).0.limit h.limit g.limit h.above g.above in
     let program : h.above.program ≡ g.above.program =
     one_typed_program units h.above.program g.above.program h.above.typed g.above.typed in
     sym h.told ∙ ap (λ (p : Program). told_of p.functions h.limit) program
@@ -121,6 +124,26 @@ both_limits texts a b (inr (many, e)) (inr (again, f)) = e ∙ sym f
 
 pub one_limit : (texts : List (List ℕ)) (a b : Excess) → Exceed texts a → Exceed texts b → a ≡ b
 one_limit texts a b h g = both_limits texts a b (above_or_many texts a h) (above_or_many texts b g)
+
+-- where texts have raw trees, the one fault of typing
+one_of_typing : (texts : List (List ℕ)) (units : List (List ExternalTree)) (e f : Fault) → HaveUnits texts units
+    → HaveFault texts e → HaveFault texts f → e ≡ f
+one_of_typing texts units e f have p q =
+    (one_answer units (end_of texts)).0.fault e f (typing_fault texts units e have p) (typing_fault texts units f have q)
+
+pub one_fault : (texts : List (List ℕ)) (e f : Fault) → HaveFault texts e → HaveFault texts f → e ≡ f
+one_fault texts e f (inr (inr (units, have, h))) q = one_of_typing texts units e f have (inr (inr (units, have, h))) q
+one_fault texts e f p (inr (inr (units, have, h))) = one_of_typing texts units e f have p (inr (inr (units, have, h)))
+one_fault texts e f (inl (n, p, few)) (inl (m, q, nor)) = lexical_once 0 texts n m e f p q
+one_fault texts e f (inl (n, p, few)) (inr (inl (files, lexed, low, h))) =
+    absurd (no_lexical 0 texts n e files p lexed)
+one_fault texts e f (inr (inl (files, lexed, low, h))) (inl (n, q, few)) =
+    absurd (no_lexical 0 texts n f files q lexed)
+one_fault texts e f (inr (inl (files, lexed, low, h))) (inr (inl (others, again, few, g))) =
+    let once = syntax_once files (ends_of 0 texts) e.kind f.kind e.at f.at h
+    (subst (λ (fs : List (List Token)). FirstFaulty fs (ends_of 0 texts) f.kind f.at)
+    (tokens_once 0 texts others files again lexed) g) in
+    ap₂ (λ (kind : FaultKind) (at : Span). record { kind = kind; at = at }) once.0 once.1
 
 pub no_fault : (texts : List (List ℕ)) (p : Program) (fault : Fault) → HaveTypedProgram texts p
     → HaveFault texts fault → ⊥

@@ -6,7 +6,7 @@ use Rattle.pcc_base.specs.declared.span.Span.{Span}
 use Rattle.pcc_base.specs.declared.keyword.Keyword.{Keyword}
 use Rattle.pcc_base.specs.declared.fault.Fault.{Fault}
 use Rattle.pcc_base.specs.declared.fault.FaultKind.{FaultKind}
-use Rattle.pcc_base.specs.declared.fault.FaultKind.TheVariants.{Syntax, Unsupported, TooDeep}
+use Rattle.pcc_base.specs.declared.fault.FaultKind.TheVariants.{Unsupported}
 use Rattle.c_lex.specs.declared.token.Token.{Token}
 use Rattle.c_lex.specs.Pieces.{Piece, NoneBegins}
 use Rattle.c_lex.specs.Tokens.{HasTokens, HasFault, BeginsWith, Reached, Leads, behind, tokens_of, start_of}
@@ -15,10 +15,11 @@ use Rattle.c_lex.proofs.OneReading.{none_at_end, one_list, tokens_or_fault}
 use Rattle.c_syntax.specs.Marks.{word}
 use Rattle.c_syntax.specs.Statements.{ExternalTree}
 use Rattle.c_syntax.specs.Grammar.{Tree}
+use Rattle.c_grammar.proofs.OneFault.{no_fault}
 use Rattle.c_grammar.proofs.StatementComplete.{one_tree}
-use Rattle.c_parse.specs.ParserRefusals.{is_outside, NoneUnsupported}
+use Rattle.c_parse.specs.ParserRefusals.{is_outside, FailsAt, FirstUnsupported, IsFaulty, NoneUnsupported}
 use Rattle.c_front.specs.Accepted.{HasTree, HaveTokens, HaveTrees, total}
-use Rattle.c_front.specs.Refusals.{FaultBehind, FirstFaulty, HaveLexicalFault, HaveManyTokens, IsFaultyIn, StandBefore}
+use Rattle.c_front.specs.Refusals.{FaultBehind, FirstFaulty, HaveLexicalFault, HaveManyTokens, StandBefore}
 use Rattle.c_parse.proofs.Inside.{unit_inside}
 
 -- ---- what stands before any fault
@@ -129,27 +130,35 @@ tree_inside : (tokens : List Token) (height : ℕ) (unit : List ExternalTree) �
     → NoneUnsupported tokens
 tree_inside tokens height unit tree = subst NoneUnsupported (sym tree.tokens_are) (unit_inside unit)
 
+-- tokens without such a keyword have no first one
+pub inside_or_first : (tokens : List Token) (keyword : Keyword) (at : Span) → NoneUnsupported tokens
+    → FirstUnsupported tokens keyword at → ⊥
+inside_or_first tokens keyword at none (before, after, earlier, outside, same) =
+    false≢true (sym (first_outside before after keyword at (subst NoneUnsupported same none)) ∙ outside)
+
+-- nor have those of a tree a fault by the grammar
+tree_or_failure : (tokens : List Token) (end : Span) (unit : List ExternalTree) (kind : FaultKind) (at : Span)
+    → HasTree tokens unit → FailsAt tokens end kind at → ⊥
+tree_or_failure tokens end unit kind at (h, low, tree) (before, rest, same, fault, is) =
+    no_fault 256 kind before rest h unit fault (subst (λ ts. Tree ts h unit) same tree) low
+
 -- tokens with a tree have no fault
-tree_or_fault : (file : ℕ) (tokens : List Token) (unit : List ExternalTree) (kind : FaultKind) (at : Span)
-    → HasTree tokens unit → IsFaultyIn file tokens kind at → ⊥
-tree_or_fault file tokens unit Syntax at has fault = fault.2 has.0 unit has.1 has.2
-tree_or_fault file tokens unit TooDeep at has fault = fault.2 has.0 unit has.1 has.2
-tree_or_fault file tokens unit (Unsupported keyword) at has (before, after, none, outside, same) =
-    let inside : NoneUnsupported (before ++ word keyword at ∷ after) =
-    subst NoneUnsupported same (tree_inside tokens has.0 unit has.2) in
-    false≢true (sym (first_outside before after keyword at inside) ∙ outside)
-tree_or_fault file tokens unit kind at has fault = absurd fault
+pub tree_or_fault : (tokens : List Token) (end : Span) (unit : List ExternalTree) (kind : FaultKind) (at : Span)
+    → HasTree tokens unit → IsFaulty tokens end kind at → ⊥
+tree_or_fault tokens end unit (Unsupported keyword) at has fault =
+    inside_or_first tokens keyword at (tree_inside tokens has.0 unit has.2) fault
+tree_or_fault tokens end unit kind at has fault = tree_or_failure tokens end unit kind at has fault.1
 
 -- files with trees have none
-pub trees_or_fault : (file : ℕ) (files : List (List Token)) (units : List (List ExternalTree)) (kind : FaultKind)
-    (at : Span)
-    → HaveTrees files units → FirstFaulty file files kind at → ⊥
-trees_or_fault file [] units kind at have fault = fault
-trees_or_fault file (tokens ∷ files) [] kind at have fault = have
-trees_or_fault file (tokens ∷ files) (unit ∷ units) kind at have (inl fault) =
-    tree_or_fault file tokens unit kind at have.0 fault
-trees_or_fault file (tokens ∷ files) (unit ∷ units) kind at have (inr (own, has, fault)) =
-    trees_or_fault (suc file) files units kind at have.1 fault
+pub trees_or_fault : (files : List (List Token)) (ends : List Span) (units : List (List ExternalTree))
+    (kind : FaultKind) (at : Span) → HaveTrees files units → FirstFaulty files ends kind at → ⊥
+trees_or_fault [] ends units kind at have fault = fault
+trees_or_fault (tokens ∷ files) [] units kind at have fault = fault
+trees_or_fault (tokens ∷ files) (end ∷ ends) [] kind at have fault = have
+trees_or_fault (tokens ∷ files) (end ∷ ends) (unit ∷ units) kind at have (inl fault) =
+    tree_or_fault tokens end unit kind at have.0 fault
+trees_or_fault (tokens ∷ files) (end ∷ ends) (unit ∷ units) kind at have (inr (own, has, fault)) =
+    trees_or_fault files ends units kind at have.1 fault
 
 -- tokens have one tree
 tree_once : (tokens : List Token) (a b : List ExternalTree) → HasTree tokens a → HasTree tokens b → a ≡ b

@@ -3,11 +3,11 @@ use Rattle.std.specs.Prelude.{◌≡◌, ◌⊎◌, ⊤, ℕ, ◌-◌, List, len
 use Rattle.pcc_base.specs.declared.span.Span.{Span}
 use Rattle.pcc_base.specs.declared.fault.Fault.{Fault}
 use Rattle.pcc_base.specs.declared.refusal.Limit.TheVariants.{Arrays, Frame}
-use Rattle.c_lex.specs.Tokens.{place_after}
 use Rattle.c_syntax.specs.Statements.{ExternalTree}
 use Rattle.c_tree.specs.Program.{Function, Program}
 use Rattle.c_tree.specs.Sizes.{frame_bound}
-use Rattle.c_front.specs.Refusals.{FirstFaulty, HaveLexicalFault, HaveManyTokens, WithTokens, first_place}
+use Rattle.c_front.specs.Refusals.{FirstFaulty, HaveLexicalFault, HaveManyTokens, WithTokens}
+use Rattle.c_front.specs.Refusals.{first_place, text_end, ends_of}
 use Rattle.c_typing.specs.Typed.{IsAbove, IsAccepted, IsLeastFault, Typed, limit_of}
 use Rattle.c_front.specs.Units.{WithUnits}
 use Rattle.c_front.specs.declared.refused.Refused.{Refused}
@@ -21,10 +21,10 @@ HaveTypedProgram texts program = WithUnits texts (λ units. IsAccepted units pro
 
 -- ---- refusals
 
--- the place behind the text of the file at this position
+-- the place behind the text of the file at this position, and the first place where there is none
 abbrev pub end_in : ℕ → Option (List ℕ) → Span
-end_in file None = first_place
-end_in file (Some text) = place_after (record { file = file; line = 1; col = 1 }) text
+end_in file None = first_place 0
+end_in file (Some text) = text_end file text
 
 -- the place behind the last text
 abbrev pub end_of : List (List ℕ) → Span
@@ -35,7 +35,7 @@ end_of texts = end_in (length texts - 1) (slice_get texts (length texts - 1))
 abbrev pub HaveFault : List (List ℕ) → Fault → Type 0
 HaveFault texts fault =
     HaveLexicalFault texts fault
-    ⊎ (WithTokens texts (λ files. FirstFaulty 0 files fault.kind fault.at)
+    ⊎ (WithTokens texts (λ files. FirstFaulty files (ends_of 0 texts) fault.kind fault.at)
     ⊎ WithUnits texts (λ units. IsLeastFault units (end_of texts) fault))
 
 -- The files have a typed program that is above the limit on frames: its first function whose frame is too large has

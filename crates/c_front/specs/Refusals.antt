@@ -1,17 +1,16 @@
 -- Why source files have no tokens or no raw trees, and where.
-use Rattle.std.specs.Prelude.{◌≡◌, ◌≤◌, ◌<◌, ◌⊎◌, ⊤, ℕ, suc, ◌+◌, List, [], ◌∷◌, length}
+use Rattle.std.specs.Prelude.{◌≡◌, ◌≤◌, ◌⊎◌, ⊤, ℕ, suc, ◌+◌, List, [], ◌∷◌, length}
 use Rattle.pcc_base.specs.declared.span.Span.{Span}
 use Rattle.pcc_base.specs.declared.fault.Fault.{Fault}
 use Rattle.pcc_base.specs.declared.fault.FaultKind.{FaultKind}
-use Rattle.pcc_base.specs.declared.fault.FaultKind.TheVariants.{Syntax, Unsupported, TooDeep}
 use Rattle.pcc_base.specs.declared.refusal.Limit.TheVariants.{Tokens}
 use Rattle.pcc_base.specs.declared.refusal.Refusal.{Refusal}
 use Rattle.pcc_base.specs.declared.refusal.Refusal.TheVariants as refusals
 use Rattle.c_lex.specs.declared.token.Token.{Token}
-use Rattle.c_lex.specs.Tokens.{HasTokens, HasFault, BeginsWith}
+use Rattle.c_lex.specs.Tokens.{HasTokens, HasFault, BeginsWith, place_after}
 use Rattle.c_syntax.specs.Statements.{ExternalTree}
-use Rattle.c_parse.specs.ParserRefusals.{NoneUnsupported, FirstUnsupported, NoTree}
-use Rattle.c_front.specs.Accepted.{HaveTokens, HasTree, HaveTrees, total}
+use Rattle.c_parse.specs.ParserRefusals.{IsFaulty}
+use Rattle.c_front.specs.Accepted.{HaveTokens, HasTree, total}
 
 -- ---- tokens
 
@@ -52,21 +51,21 @@ AreUnread texts _ = ⊥
 
 -- ---- trees
 
--- a fault of this kind, in the file of this number: its first keyword that no rule uses; or no raw tree of height at
--- most 256
-abbrev pub IsFaultyIn : ℕ → List Token → FaultKind → Span → Type 0
-IsFaultyIn file tokens (Unsupported keyword) at = FirstUnsupported tokens keyword at
-IsFaultyIn file tokens Syntax at = (at.file ≡ file) × NoneUnsupported tokens × NoTree tokens
-IsFaultyIn file tokens TooDeep at = (at.file ≡ file) × NoneUnsupported tokens × NoTree tokens
-IsFaultyIn file tokens _ at = ⊥
+-- the first line and column of the source of this number
+abbrev pub first_place : ℕ → Span
+first_place file = record { file = file; line = 1; col = 1 }
 
--- the first file without a raw tree has this fault; the first file has this number
-abbrev pub FirstFaulty : ℕ → List (List Token) → FaultKind → Span → Type 0
-FirstFaulty file [] kind at = ⊥
-FirstFaulty file (tokens ∷ others) kind at =
-    IsFaultyIn file tokens kind at ⊎ ((unit : List ExternalTree) × HasTree tokens unit
-    × FirstFaulty (suc file) others kind at)
+-- the place behind a text
+abbrev pub text_end : ℕ → List ℕ → Span
+text_end file text = place_after (first_place file) text
 
--- the first line and column of the first source
-abbrev pub first_place : Span
-first_place = record { file = 0; line = 1; col = 1 }
+-- the places behind texts, of which the first has this number
+abbrev pub ends_of : ℕ → List (List ℕ) → List Span
+ends_of file [] = []
+ends_of file (text ∷ texts) = text_end file text ∷ ends_of (suc file) texts
+
+-- of the tokens of files, with the places behind their texts, the first without a raw tree have this fault
+abbrev pub FirstFaulty : List (List Token) → List Span → FaultKind → Span → Type 0
+FirstFaulty (tokens ∷ others) (end ∷ ends) kind at =
+    IsFaulty tokens end kind at ⊎ ((unit : List ExternalTree) × HasTree tokens unit × FirstFaulty others ends kind at)
+FirstFaulty _ _ kind at = ⊥

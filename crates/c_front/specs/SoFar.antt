@@ -10,25 +10,25 @@ use Rattle.c_lex.specs.declared.token.Token.{Token}
 use Rattle.c_lex.specs.Tokens.{HasFault, BeginsWith}
 use Rattle.c_syntax.specs.Statements.{ExternalTree}
 use Rattle.c_front.specs.Accepted.{HaveTokens, HaveTrees, total}
-use Rattle.c_front.specs.Refusals.{StandBefore, FaultBehind, FirstFaulty, IsFaultyIn}
+use Rattle.c_front.specs.Refusals.{StandBefore, FaultBehind, FirstFaulty, ends_of}
 
--- The files before the rest have these tokens, and so many more may come: what holds of the rest, of which the first
--- file has this number, holds of all.
-pub record LexedSoFar (texts : List (List ℕ)) (files : List (List Token)) (file left : ℕ)
+-- The files before the rest have these tokens and end there, and so many more may come: what holds of the rest, of which
+-- the first file has this number, holds of all.
+pub record LexedSoFar (texts : List (List ℕ)) (files : List (List Token)) (ends : List Span) (file left : ℕ)
     (rest : List (List ℕ)) : Type 0
   where
     pub counted : file + length rest ≡ length texts
     pub left_is : total files + left ≡ 0x10000
+    pub ends_are : ends ++ ends_of file rest ≡ ends_of 0 texts
     pub tokens : (others : List (List Token)) → HaveTokens file rest others → HaveTokens 0 texts (files ++ others)
     pub fault : (n : ℕ) (fault : Fault) → FaultBehind file rest n fault → FaultBehind 0 texts (total files + n) fault
     pub many : (n : ℕ) → StandBefore file rest n → StandBefore 0 texts (total files + n)
 
 -- the same of the raw trees
-pub record ParsedSoFar (files : List (List Token)) (units : List (List ExternalTree)) (file : ℕ)
-    (rest : List (List Token)) : Type 0 where
-  pub counted : file + length rest ≡ length files
+pub record ParsedSoFar (files : List (List Token)) (ends : List Span) (units : List (List ExternalTree))
+    (rest : List (List Token)) (rest_ends : List Span) : Type 0 where
   pub trees : (others : List (List ExternalTree)) → HaveTrees rest others → HaveTrees files (units ++ others)
-  pub fault : (kind : FaultKind) (at : Span) → FirstFaulty file rest kind at → FirstFaulty 0 files kind at
+  pub fault : (kind : FaultKind) (at : Span) → FirstFaulty rest rest_ends kind at → FirstFaulty files ends kind at
 
 -- why a file has no more than so many tokens
 abbrev pub IsUnread : ℕ → List ℕ → ℕ → Refusal → Type 0
@@ -39,14 +39,8 @@ IsUnread file text left (refusals.Limit (Tokens n)) = (n ≡ 0x10001)
 IsUnread file text left refusals.NoMemory = ⊤
 IsUnread file text left _ = ⊥
 
--- why a file has no raw tree
-abbrev pub IsUnparsed : ℕ → List Token → Refusal → Type 0
-IsUnparsed file tokens (refusals.Fault fault) = IsFaultyIn file tokens fault.kind fault.at
-IsUnparsed file tokens (refusals.Limit limit) = ⊥
-IsUnparsed file tokens refusals.NoMemory = ⊤
-
 -- why files have no raw trees
-abbrev pub AreUnparsed : List (List Token) → Refusal → Type 0
-AreUnparsed files (refusals.Fault fault) = FirstFaulty 0 files fault.kind fault.at
-AreUnparsed files (refusals.Limit limit) = ⊥
-AreUnparsed files refusals.NoMemory = ⊤
+abbrev pub AreUnparsed : List (List Token) → List Span → Refusal → Type 0
+AreUnparsed files ends (refusals.Fault fault) = FirstFaulty files ends fault.kind fault.at
+AreUnparsed files ends (refusals.Limit limit) = ⊥
+AreUnparsed files ends refusals.NoMemory = ⊤

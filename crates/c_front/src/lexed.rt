@@ -4,7 +4,7 @@ ghost use Rattle.std.specs.Prelude.{◌≡◌, ◌≤◌, ◌<◌, ◌+◌, ◌^
 ghost use Rattle.std.specs.List.{AllByRecursion};
 ghost use Rattle.c_lex.specs.Tokens.{HasTokens};
 ghost use Rattle.c_front.specs.Accepted.{HaveTokens, total};
-ghost use Rattle.c_front.specs.Refusals.{AreUnread};
+ghost use Rattle.c_front.specs.Refusals.{AreUnread, ends_of, first_place, text_end};
 ghost use Rattle.c_front.specs.SoFar.{IsUnread};
 
 use c_lex::{Token, advance, lex};
@@ -25,22 +25,37 @@ pub struct Lexed {
     pub end: Span,
 }
 
+/// The first place of the file at this position.
+pub(crate) fn first_place(file: u32) -> Span
+    ensures { result ≡ first_place file }
+{
+    Span {
+        file,
+        line: 1,
+        col: 1,
+    }
+}
+
+/// The place behind its text.
+pub(crate) fn text_end(file: u32, text: &[u8]) -> Span
+    requires small { length text.now + 1 < 2 ^ 32 }
+    ensures { result ≡ text_end file text.now }
+{
+    advance(first_place(file), text)
+}
+
 /// The tokens of the file at this position, where at most so many are left of those that are read.
 fn lex_file(alloc: Global, file: u32, text: &[u8], left: usize) -> Result<Lexed, Refusal>
     requires small { length text.now + 1 < 2 ^ 32 }
     ensures tokens { IfOk result (λ f. HasTokens file text.now f.tokens.items) }
     ensures few { IfOk result (λ f. length f.tokens.items ≤ left) }
+    ensures end { IfOk result (λ f. f.end ≡ text_end file text.now) }
     ensures refused { IfErr result (IsUnread file text.now left) }
 {
-    let start = Span {
-        file,
-        line: 1,
-        col: 1,
-    };
     match lex(alloc, file, text, left) {
         Ok(tokens) => Ok(Lexed {
             tokens,
-            end: advance(start, text),
+            end: text_end(file, text),
         }),
         Err(Refusal::Limit(_)) => Err(Refusal::Limit(Limit::Tokens(MANY_TOKENS))),
         Err(refusal) => Err(refusal),
@@ -55,6 +70,7 @@ pub fn lex_files(alloc: Global, texts: &[Vec<u8>]) -> Result<Vec<Lexed>, Refusal
     ensures tokens { IfOk result (λ files. HaveTokens 0 (map (λ t. t.items) texts.now)
         (map (λ f. f.tokens.items) files.items)) }
     ensures few { IfOk result (λ files. total (map (λ f. f.tokens.items) files.items) ≤ 65536) }
+    ensures ends { IfOk result (λ files. map (λ f. f.end) files.items ≡ ends_of 0 (map (λ t. t.items) texts.now)) }
     ensures refused { IfErr result (AreUnread (map (λ t. t.items) texts.now)) }
 {
     let mut files = Vec::new(alloc);

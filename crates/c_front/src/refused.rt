@@ -8,7 +8,7 @@ ghost use Rattle.c_typing.specs.Typed.{IsAbove};
 ghost use Rattle.c_check.specs.ProgramAnswers.{IsRefusal};
 ghost use Rattle.c_check_laws.specs.Names.{defined_names};
 ghost use Rattle.c_front.specs.Accepted.{HaveTokens, total};
-ghost use Rattle.c_front.specs.Refusals.{AreUnread};
+ghost use Rattle.c_front.specs.Refusals.{AreUnread, ends_of};
 ghost use Rattle.c_front.specs.SoFar.{AreUnparsed};
 ghost use Rattle.c_front.specs.Units.{HaveUnits};
 ghost use Rattle.c_front.specs.Answers.{AreRefused, end_of};
@@ -39,7 +39,7 @@ pub enum Refused {
 pub(crate) fn without_trees(refusal: Refusal) -> Refused
     ensures unread { (texts : List (List ℕ)) → AreUnread texts refusal → AreRefused texts result }
     ensures unparsed { (texts : List (List ℕ)) (files : List (List Token)) → HaveTokens 0 texts files
-        → total files ≤ 65536 → AreUnparsed files refusal → AreRefused texts result }
+        → total files ≤ 65536 → AreUnparsed files (ends_of 0 texts) refusal → AreRefused texts result }
 {
     match refusal {
         Refusal::Fault(fault) => Refused::Fault(fault),

@@ -9,12 +9,11 @@ ghost use Rattle.c_syntax.specs.Statements.{unit_of};
 ghost use Rattle.c_front.specs.Units.{HaveUnits};
 ghost use Rattle.c_front.specs.Answers.{AreRefused, HaveTypedProgram, end_of};
 
-use crate::lexed::lex_files;
+use crate::lexed::{first_place, lex_files, text_end};
 use crate::parsed::parse_files;
 use crate::refused::{Refused, without_program, without_trees};
 use crate::unit_laws::units_are_sources;
 use c_check::check;
-use c_lex::advance;
 use c_syntax::RawUnit;
 use c_tree::Program;
 use pcc_base::Span;
@@ -27,18 +26,9 @@ fn end_of(texts: &[Vec<u8>]) -> Span
     ensures { result ≡ end_of (map (λ t. t.items) texts.now) }
 {
     let last = texts.len().saturating_sub(1);
-    let start = Span {
-        file: last as u32,
-        line: 1,
-        col: 1,
-    };
     match texts.get(last) {
-        Some(text) => advance(start, text.as_slice()),
-        None => Span {
-            file: 0,
-            line: 1,
-            col: 1,
-        },
+        Some(text) => text_end(last as u32, text.as_slice()),
+        None => first_place(0),
     }
 }
 

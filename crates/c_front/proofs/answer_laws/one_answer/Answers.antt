@@ -1,9 +1,12 @@
 -- Texts have one answer.
-use Rattle.c_front.proofs.OneAnswer.{one_program, one_limit, no_fault, within, fault_or_limit}
+use Rattle.c_front.proofs.OneAnswer.{one_program, one_fault, one_limit, no_fault, within, fault_or_limit}
 use Rattle.c_front.proofs.answer_laws.one_answer.Goals as goal
 
 pub returns-clause-program : goal.returns-clause-program
 returns-clause-program c = one_program
+
+pub returns-clause-fault : goal.returns-clause-fault
+returns-clause-fault c = one_fault
 
 pub returns-clause-limit : goal.returns-clause-limit
 returns-clause-limit c = one_limit
