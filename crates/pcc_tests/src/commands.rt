@@ -71,7 +71,7 @@ const COMMANDS: &str = "\n  pcc run [--steps N] IMAGE ";
 /// What a telling of usage has for words that mean help or nothing: the command line, and two of its parts. The second
 /// one is `COMMANDS` where a row has one alone.
 const USAGES: &str = "\
-21 rows
+24 rows
  => 'pcc' requires a subcommand
 compile a.c => -o <NAME>
 compile -o a => <SRC>...
@@ -92,9 +92,13 @@ selftest -o g x => invalid value 'x'
 gcc a.c => 'gcc'
 --help =>   compile   Compiles C files =>   solve\x20
 run --help => --steps <N> => [default: 1000000000]
-compile -h => -o <NAME> => its map is NAME.map";
+compile -h => -o <NAME> => its map is NAME.map
+help compile => Usage: pcc compile -o <NAME> <SRC>... => its map is NAME.map
+--version => pcc 0.1.0 => usage
+-V => pcc 0.1.0 => usage";
 
-/// Words that mean no command are told what is wrong with them and the commands; help that is asked for is told alone.
+/// Words that mean no command are told what is wrong with them and the commands; help or a version that is
+/// asked for is told alone.
 #[test]
 fn tells_usage(rt: HostRuntime) {
     let alloc = rt.alloc();

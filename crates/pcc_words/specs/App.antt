@@ -74,10 +74,10 @@ least = with_rule (new_app (codes "least")) (wanted (codes "FILE"))
 abbrev pub board : App
 board = with_rule (new_app (codes "board")) sources
 
--- one of the commands is required; the words don't begin with the program's name
+-- one of the commands is required, and there is a version; the words don't begin with the program's name
 abbrev pub top : App
 top = record (new_app (codes "pcc")) {
-  top = record (new_app (codes "pcc")).top { no_binary_name = true; subcommand_required = true };
+  top = record (new_app (codes "pcc")).top { no_binary_name = true; has_version = true; subcommand_required = true };
 }
 
 -- behind it the commands, in the order of the help

@@ -184,14 +184,19 @@ fn board<'a>(alloc: Global) -> Result<Command<'a>, AllocError>
     )
 }
 
+/// The version that `--version` tells.
+const VERSION: &str = "0.1.0";
+
 /// The program without its commands, of which one is required.
-fn top<'a>(alloc: Global) -> Command<'a>
-    ensures { app_of result ≡ apps.top }
+fn top<'a>(alloc: Global) -> Result<Command<'a>, AllocError>
+    ensures { IfOk result (λ c. app_of c ≡ apps.top) }
 {
     Command::new(alloc, "pcc")
         .about("A compiler of a subset of C99 to static i386 ELF")
+        .version(VERSION)
         .no_binary_name(true)
         .subcommand_required(true)
+        .bin_name("pcc")
 }
 
 /// The program with one more command, where both are there.
@@ -210,7 +215,7 @@ fn with_command<'a>(
 pub fn app<'a>(alloc: Global) -> Result<Command<'a>, AllocError>
     ensures { IfOk result (λ c. app_of c ≡ apps.app) }
 {
-    let with_compile = with_command(Ok(top(alloc)), compile(alloc));
+    let with_compile = with_command(top(alloc), compile(alloc));
     let with_run = with_command(with_compile, run(alloc));
     let with_eval = with_command(with_run, eval(alloc));
     let with_solve = with_command(with_eval, solve(alloc));

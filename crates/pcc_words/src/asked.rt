@@ -333,13 +333,13 @@ fn asked_in<'a>(alloc: Global, matches: &ArgMatches<'a>) -> Result<Command<'a>, 
     }
 }
 
-/// What is told of words that mean no command: what is wrong with them, or the help that they ask for.
+/// What is told of words that mean no command: what is wrong with them, or the help or the version that they ask for.
 fn refused<'a>(alloc: Global, error: &Error) -> Result<Command<'a>, NoMemory>
     ensures { MatchResult result (λ c. (meaning c ≡ Usage) × (kind_of error.now ≢ OutOfMemory)) (λ e. ⊤) }
 {
     match error.kind() {
         ErrorKind::OutOfMemory => Err(NoMemory),
-        ErrorKind::DisplayHelp => told(format!(in alloc; "{error}")),
+        ErrorKind::DisplayHelp | ErrorKind::DisplayVersion => told(format!(in alloc; "{error}")),
         _ => told(format!(in alloc; "{error}\n{COMMANDS}")),
     }
 }
