@@ -43,7 +43,7 @@ fn push_new(
 }
 
 /// The variables of pieces, each once, with their distances at a point.
-pub fn candidates_of(
+pub(crate) fn candidates_of(
     alloc: Global,
     distances: &Distances,
     point: u32,

@@ -106,7 +106,7 @@ impl Elementary {
     }
 
     /// Whether a point is in a block.
-    pub fn is_placed(&self, point: u32) -> bool
+    pub(crate) fn is_placed(&self, point: u32) -> bool
         ensures { IsTrue result ↔ IsPlaced self.now.graph point }
     {
         self.place(point).is_some()

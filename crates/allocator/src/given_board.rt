@@ -9,7 +9,7 @@ use std::alloc::Global;
 use std::sync::ledger::Ledger;
 
 /// A board with these areas and pieces, of which none is placed. Piece i has number i.
-pub fn board_with<L: Ledger>(
+pub(crate) fn board_with<L: Ledger>(
     alloc: Global,
     areas: &[Area],
     pieces: &[Piece],

@@ -66,7 +66,7 @@ fn solve_counted<L: Ledger>(
 
 /// Solves a point's board, of which these are the pieces, with as few variables spilled as the spill order allows, and
 /// near to where the variables stood.
-pub fn solve_point(
+pub(crate) fn solve_point(
     alloc: Global,
     form: &Elementary,
     distances: &Distances,

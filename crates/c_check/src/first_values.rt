@@ -83,7 +83,11 @@ fn gather(
 }
 
 /// The static objects that notes define, in the order of their numbers.
-pub fn describe(alloc: Global, notes: &[Note], known: &Known) -> Result<Vec<Described>, NoMemory>
+pub(crate) fn describe(
+    alloc: Global,
+    notes: &[Note],
+    known: &Known,
+) -> Result<Vec<Described>, NoMemory>
     requires { IsKnownOf (map note_of notes.now) (known_of known.now) }
     ensures { IfOk result (λ v. map object_described v.items ≡ static_objects (map note_of notes.now)) }
 {

@@ -35,15 +35,14 @@ mod units;
 mod whole_program;
 
 pub use expression_heights::{Height, expression, higher, on_one};
-pub use first_values::{Described, arrays_bytes, built, describe};
+pub use first_values::{Described, arrays_bytes, built};
 pub use functions::{declare_function, function_signature};
 pub use item_heights::item;
 pub use known::{Known, defined};
 pub use laws::one_answer;
-pub use missing::{has_main, least_missing};
+pub use missing::has_main;
 pub use numbering_laws::functions_are_defined_once;
 pub use numbers::numbered;
 pub use outlines::{Outline, Plan, planned};
-pub use outside_items::outside_declaration;
 pub use programs::finished;
 pub use whole_program::check;

@@ -50,7 +50,7 @@ fn earlier_of(first: Option<Fault>, second: Option<Fault>) -> Option<Fault>
 }
 
 /// The least fault of something that is called or used without a definition (C99 6.9p5), where there is one.
-pub fn least_missing(notes: &[Note], known: &Known) -> Option<Fault>
+pub(crate) fn least_missing(notes: &[Note], known: &Known) -> Option<Fault>
     requires { IsKnownOf (map note_of notes.now) (known_of known.now) }
     ensures { result ≡ least (missing (map note_of notes.now)) }
 {

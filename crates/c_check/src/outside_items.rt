@@ -81,7 +81,7 @@ fn outer_items(
 }
 
 /// A declaration outside functions, which defines none. What it declares is seen behind it.
-pub fn outside_declaration(
+pub(crate) fn outside_declaration(
     alloc: Global,
     scopes: &mut Scopes,
     notes: &mut Notes,

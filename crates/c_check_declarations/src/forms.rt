@@ -42,7 +42,7 @@ fn char_letters(value: &Initialiser) -> Option<&[TextPiece]>
 }
 
 /// The string that initialises an array with such elements, where it is one.
-pub fn letters_in(of: Option<ValueType>, value: &Initialiser) -> Option<&[TextPiece]>
+pub(crate) fn letters_in(of: Option<ValueType>, value: &Initialiser) -> Option<&[TextPiece]>
     ensures { option_map (λ p. p.now) result ≡ letters_in (values_by of (initialiser_of value.now)) }
 {
     match of {

@@ -49,7 +49,7 @@ fn tree_of(part: Judged<Operand>) -> Judged<Tree>
 }
 
 /// One value of a list, as its object's type asks for it.
-pub fn tree_value(
+pub(crate) fn tree_value(
     alloc: Global,
     scopes: &Scopes,
     notes: &mut Notes,

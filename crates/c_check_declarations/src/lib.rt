@@ -23,11 +23,10 @@ mod specifiers;
 mod stored;
 
 pub use answers::{also, behind, maybe_behind};
-pub use initial_value::tree_value;
 pub use initialisers::scalar_values;
 pub use items::declaration;
 pub use objects::{ObjectType, bind_object, object_allowed, type_fault};
 pub use parameter_lists::{parameters, parameters_apart};
 pub use sizes::object_declared;
-pub use specifiers::{Position, Specified, specifiers_at, specifiers_if_any};
+pub use specifiers::{Position, Specified, specifiers_at};
 pub use stored::stored_object;

@@ -93,7 +93,7 @@ fn may_stand(position: Position, storage: Storage) -> bool
 }
 
 /// What specifiers say, or none where they say nothing that may stand there.
-pub fn specifiers_if_any(position: Position, specifiers: &[Specifier]) -> Option<Specified>
+pub(crate) fn specifiers_if_any(position: Position, specifiers: &[Specifier]) -> Option<Specified>
     ensures { option_map specified_of result ≡ specified (position_of position) specifiers.now }
 {
     let base = the_type(specifiers)?;

@@ -247,7 +247,7 @@ pub fn undeclared(at: Span) -> Fault
 }
 
 /// The fault where a called name means a number.
-pub fn number_called(at: Span) -> Fault
+pub(crate) fn number_called(at: Span) -> Fault
     ensures { result ≡ fault kinds.TypeRule at }
 {
     Fault {
@@ -257,7 +257,7 @@ pub fn number_called(at: Span) -> Fault
 }
 
 /// The fault where a called name means an array.
-pub fn array_called(at: Span) -> Fault
+pub(crate) fn array_called(at: Span) -> Fault
     ensures { result ≡ fault kinds.PointerUse at }
 {
     Fault {
@@ -267,7 +267,7 @@ pub fn array_called(at: Span) -> Fault
 }
 
 /// The fault where a called name means a local.
-pub fn local_called(at: Span, of: ValueType) -> Fault
+pub(crate) fn local_called(at: Span, of: ValueType) -> Fault
     ensures { result ≡ fault (if is_pointer of then kinds.PointerUse else kinds.TypeRule) at }
 {
     match of {

@@ -23,7 +23,7 @@ pub enum Constant {
 
 impl Constant {
     /// A constant of a type (C99 6.4.4).
-    pub fn of_number(of: IntegerType, n: i32) -> Constant
+    pub(crate) fn of_number(of: IntegerType, n: i32) -> Constant
         ensures { IsConstant (typed.Constant of n) result }
     {
         Constant::Value(convert(of, n))
@@ -106,7 +106,7 @@ impl Constant {
     }
 
     /// Whether it has a constant expression's parts alone.
-    pub fn is_constant(self) -> bool
+    pub(crate) fn is_constant(self) -> bool
         ensures { (e : Expression) → IsConstant e self → has_constant_form e ≡ result }
     {
         match self {

@@ -43,7 +43,7 @@ pub fn plain(tree: Box<Expression>) -> Operand
 }
 
 /// The same of a tree that is in no box yet.
-pub fn plain_node(alloc: Global, tree: Expression) -> Result<Operand, NoMemory>
+pub(crate) fn plain_node(alloc: Global, tree: Expression) -> Result<Operand, NoMemory>
     requires { has_constant_form (expression_of tree) ≡ false }
     ensures { IfOk result (λ o. IsOperandOf (expression_of tree) o) }
 {

@@ -64,7 +64,7 @@ pub fn step_of(
 }
 
 /// A cast to a type (C99 6.5.4).
-pub fn cast_of(
+pub(crate) fn cast_of(
     alloc: Global,
     at: Span,
     parts: Judged<(ValueType, Operand)>,
@@ -115,7 +115,7 @@ pub fn binary_of(
 }
 
 /// `test ? first : second` (C99 6.5.15).
-pub fn conditional_of(
+pub(crate) fn conditional_of(
     alloc: Global,
     at: Span,
     parts: Judged<(Operand, (Operand, Operand))>,
@@ -135,7 +135,7 @@ pub fn conditional_of(
 }
 
 /// An assignment (C99 6.5.16).
-pub fn assignment_of(
+pub(crate) fn assignment_of(
     alloc: Global,
     op: AssignOp,
     at: Span,

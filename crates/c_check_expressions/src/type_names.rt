@@ -79,7 +79,7 @@ fn is_storage(word: SpecifierWord) -> bool
 }
 
 /// Whether a storage word stands among specifiers.
-pub fn has_storage(specifiers: &[Specifier]) -> bool
+pub(crate) fn has_storage(specifiers: &[Specifier]) -> bool
     ensures { result ≡ list_any is_storage (words_of specifiers.now) }
 {
     specifiers.iter().map(|s| s.word).any(is_storage)

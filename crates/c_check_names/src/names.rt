@@ -159,7 +159,7 @@ impl Names {
     }
 
     /// Forgets bindings until so many are left.
-    pub fn forget_until(&mut self, count: usize)
+    pub(crate) fn forget_until(&mut self, count: usize)
         ensures { self.new ≡ drop (length self.old - count) self.old }
     {
         'names: while self.len() > count {

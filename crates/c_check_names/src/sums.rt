@@ -12,7 +12,7 @@ pub struct Seen {
 }
 
 /// What is known with one more declaration, which differs in type from the first one or not, and is whole or not.
-pub fn with_one_more(seen: Seen, apart: bool, whole: bool) -> Seen
+pub(crate) fn with_one_more(seen: Seen, apart: bool, whole: bool) -> Seen
     ensures { result ≡ record { first = seen.first; mixed = seen.mixed || apart; whole = seen.whole || whole } }
 {
     Seen {
@@ -24,7 +24,7 @@ pub fn with_one_more(seen: Seen, apart: bool, whole: bool) -> Seen
 
 /// Whether a declaration clashes with what is known, where it differs in type from the first one or not, and is whole
 /// or not.
-pub fn is_against(seen: Seen, apart: bool, whole: bool) -> bool
+pub(crate) fn is_against(seen: Seen, apart: bool, whole: bool) -> bool
     ensures { result ≡ ((seen.mixed || apart) || (whole && seen.whole)) }
 {
     seen.mixed || apart || (whole && seen.whole)

@@ -75,7 +75,7 @@ pub struct ForHead {
 // ---- conditions
 
 /// A condition before the statement that it decides on (C99 6.8.4.1 and 6.8.5.1).
-pub fn test_head(
+pub(crate) fn test_head(
     alloc: Global,
     scopes: &mut Scopes,
     notes: &mut Notes,
@@ -97,7 +97,7 @@ pub fn test_head(
 }
 
 /// The condition of a `do`, which stands behind its body, and is judged before it (C99 6.8.5.2).
-pub fn do_head(
+pub(crate) fn do_head(
     alloc: Global,
     scopes: &mut Scopes,
     until: Span,
@@ -332,7 +332,7 @@ pub fn for_head(
 }
 
 /// The parts of a `for` before its body, where its first part is a declaration. Its names are seen behind it.
-pub fn declared_head(
+pub(crate) fn declared_head(
     alloc: Global,
     scopes: &mut Scopes,
     notes: &mut Notes,

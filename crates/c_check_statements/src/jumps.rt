@@ -25,7 +25,7 @@ use pcc_base::{Fault, FaultKind, NoMemory, Span};
 use std::alloc::Global;
 
 /// An empty statement (C99 6.8.3).
-pub fn empty_statement(
+pub(crate) fn empty_statement(
     alloc: Global,
     scopes: &mut Scopes,
 ) -> Result<Judged<Vec<Statement>>, NoMemory>
@@ -94,7 +94,7 @@ fn jump(
 }
 
 /// `break;`, where it may stand (C99 6.8.6.3).
-pub fn break_statement(
+pub(crate) fn break_statement(
     alloc: Global,
     scopes: &mut Scopes,
     may: bool,
@@ -109,7 +109,7 @@ pub fn break_statement(
 }
 
 /// `continue;`, where it may stand (C99 6.8.6.2).
-pub fn continue_statement(
+pub(crate) fn continue_statement(
     alloc: Global,
     scopes: &mut Scopes,
     may: bool,
@@ -140,7 +140,7 @@ fn returning(
 }
 
 /// `return`, in a function whose result is of this type (C99 6.8.6.4).
-pub fn return_statement(
+pub(crate) fn return_statement(
     alloc: Global,
     scopes: &mut Scopes,
     notes: &mut Notes,

@@ -14,7 +14,7 @@ use c_tree::Label;
 use pcc_base::{Fault, FaultKind, Span};
 
 /// The fault of a label that has no value, or stands twice.
-pub fn label_fault(at: Span) -> Fault
+pub(crate) fn label_fault(at: Span) -> Fault
     ensures { result ≡ fault CaseLabel at }
 {
     Fault {

@@ -182,7 +182,7 @@ fn number(n: usize) -> Result<u32, NoMemory>
 }
 
 /// The labels of a switch, of which no two have the same value, and one at most is `default`.
-pub fn switch_labels(
+pub(crate) fn switch_labels(
     alloc: Global,
     scopes: &Scopes,
     notes: &mut Notes,

@@ -21,15 +21,9 @@ mod parts;
 mod walk;
 mod whole;
 
-pub use heads::{
-    DoHead, ForHead, SwitchHead, TestHead, declared_head, do_head, for_head, switch_head, test_head,
-};
-pub use jumps::{
-    break_statement, continue_statement, empty_statement, evaluated, return_statement,
-};
-pub use label::{label_fault, one_label};
-pub use nodes::{
-    Branch, block, do_loop, first_branch, for_loop, if_else, if_only, switch, while_loop,
-};
+pub use heads::{DoHead, ForHead, SwitchHead, TestHead, for_head, switch_head};
+pub use jumps::evaluated;
+pub use label::one_label;
+pub use nodes::{Branch, block, do_loop, for_loop, if_else, switch, while_loop};
 pub use parts::{declared, joined};
 pub use whole::body;

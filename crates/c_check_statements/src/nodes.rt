@@ -99,7 +99,7 @@ fn if_only_of(
 }
 
 /// An `if` without an `else` (C99 6.8.4.1).
-pub fn if_only(
+pub(crate) fn if_only(
     alloc: Global,
     head: TestHead,
     part: Judged<Vec<Statement>>,
@@ -156,7 +156,7 @@ pub struct Branch {
 }
 
 /// The first branch behind a condition.
-pub fn first_branch(head: TestHead, part: Judged<Vec<Statement>>) -> Branch
+pub(crate) fn first_branch(head: TestHead, part: Judged<Vec<Statement>>) -> Branch
     ensures number { result.number ≡ head.number }
     ensures said { (c : Checked Typed) (a : Checked (List TypedStatement)) (before between after : List Note)
         → IsSaid IsTree c head.test before between → IsSaid AreListed a part between after

@@ -70,7 +70,7 @@ fn advance_expression<'a, I: Source, O: Sink>(
 }
 
 /// A task that was taken and is to be done, or none where a turn comes next.
-pub fn advance_ahead<'a, I: Source, O: Sink>(
+pub(crate) fn advance_ahead<'a, I: Source, O: Sink>(
     left: &mut Evaluation<'a>,
     store: &mut Store,
     program: &'a Program,

@@ -63,7 +63,7 @@ fn number(store: &Store, e: &Expression, depth: u32) -> Option<i32>
 
 /// An expression, as far as it goes at once: the task that is left to do of it before all others, or none where its
 /// value is there.
-pub fn shorten<'a>(
+pub(crate) fn shorten<'a>(
     left: &mut Evaluation<'a>,
     store: &Store,
     e: &'a Expression,

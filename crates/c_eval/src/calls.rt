@@ -19,7 +19,7 @@ use pcc_base::NoMemory;
 
 /// The next argument of a call is to be evaluated.
 #[tactic(auto, using(c_eval_state::proofs::Stacking::arguments_here))]
-pub fn pass_argument<'a>(
+pub(crate) fn pass_argument<'a>(
     left: &mut Evaluation<'a>,
     function: u32,
     arguments: &'a [Expression],

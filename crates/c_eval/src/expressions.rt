@@ -76,7 +76,7 @@ fn begin_access<'a>(left: &mut Evaluation<'a>, e: &'a Expression) -> Result<(), 
 
 /// An expression is taken apart, or its value is known; `false` and nothing done for `getchar`.
 #[tactic(auto, using(crate::proofs::Rows::row_is))]
-pub fn take_apart<'a>(
+pub(crate) fn take_apart<'a>(
     left: &mut Evaluation<'a>,
     store: &Store,
     e: &'a Expression,

@@ -89,7 +89,7 @@ pub fn declare<'a>(
 }
 
 /// The next item of a row, and those behind it.
-pub fn declare_next<'a>(left: &mut Evaluation<'a>, items: &'a [Item]) -> Result<(), NoMemory>
+pub(crate) fn declare_next<'a>(left: &mut Evaluation<'a>, items: &'a [Item]) -> Result<(), NoMemory>
     requires { (left_of left.old).way ≡ Ahead }
     ensures { IfOk result (λ _. (p : Program) (l : Listing) (s : State)
         → done p l (tasks.DeclaresAll (map item_of items.now)) (left_of left.old) s ≡ Gives (left_of left.new) s) }
@@ -127,7 +127,7 @@ pub fn fill<'a>(
 }
 
 /// An element of an array gets its first value, and then those behind it come.
-pub fn fill_element<'a>(
+pub(crate) fn fill_element<'a>(
     left: &mut Evaluation<'a>,
     store: &mut Store,
     array: u32,

@@ -29,8 +29,6 @@ mod stores;
 mod turns;
 mod values;
 
-pub use ahead::advance_ahead;
 pub use evaluate::eval;
 pub use locals::declare_local;
 pub use next::Next;
-pub use operators::begin_binary;

@@ -16,7 +16,7 @@ use c_tree::{BinaryOp, Expression, ValueType};
 use pcc_base::{NoMemory, Trap};
 
 /// Both operands of an operator are to be evaluated, the left one first, and then the operator (C99 6.5.5 to 6.5.12).
-pub fn begin_binary<'a>(
+pub(crate) fn begin_binary<'a>(
     left: &mut Evaluation<'a>,
     op: BinaryOp,
     first: &'a Expression,

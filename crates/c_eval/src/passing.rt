@@ -68,7 +68,7 @@ fn give_returned(left: &mut Evaluation<'_>) -> Result<(), NoMemory>
 
 /// The end of a function.
 #[tactic(auto, using(crate::proofs::Passed::return_passed))]
-pub fn pass_return<'a>(
+pub(crate) fn pass_return<'a>(
     left: &mut Evaluation<'a>,
     store: &mut Store,
     caller: &'a Function,

@@ -124,7 +124,7 @@ pub fn follow<'a>(left: &mut Evaluation<'a>, statements: &'a [Statement]) -> Res
 }
 
 /// A turn of a loop begins with its test, or with the body where it has none before that (C99 6.8.5).
-pub fn begin_turn<'a>(left: &mut Evaluation<'a>, x: &'a Statement) -> Result<(), NoMemory>
+pub(crate) fn begin_turn<'a>(left: &mut Evaluation<'a>, x: &'a Statement) -> Result<(), NoMemory>
     requires way { (left_of left.old).way ≡ Ahead }
     requires turns { IsLoop (statement_of x.now) }
     ensures { IfOk result (λ _. (p : Program) (l : Listing) (s : State)
@@ -160,7 +160,10 @@ pub fn return_value(left: &mut Evaluation<'_>, to: ValueType) -> Result<(), NoMe
 }
 
 /// Behind the body of a loop, or of a `switch`.
-pub fn go_behind_body<'a>(left: &mut Evaluation<'a>, x: &'a Statement) -> Result<(), NoMemory>
+pub(crate) fn go_behind_body<'a>(
+    left: &mut Evaluation<'a>,
+    x: &'a Statement,
+) -> Result<(), NoMemory>
     requires { (left_of left.old).way ≡ Ahead }
     ensures { IfOk result (λ _. (p : Program) (l : Listing) (s : State)
         → done p l (part_task parts.Body (statement_of x.now)) (left_of left.old) s ≡ Gives (left_of left.new) s) }
@@ -255,7 +258,10 @@ fn go_to_label<'a>(
 }
 
 /// Behind a test, or the value of a `switch`.
-pub fn go_behind_test<'a>(left: &mut Evaluation<'a>, x: &'a Statement) -> Result<(), NoMemory>
+pub(crate) fn go_behind_test<'a>(
+    left: &mut Evaluation<'a>,
+    x: &'a Statement,
+) -> Result<(), NoMemory>
     requires { (left_of left.old).way ≡ Ahead }
     ensures { IfOk result (λ _. (p : Program) (l : Listing) (s : State)
         → done p l (part_task parts.Test (statement_of x.now)) (left_of left.old) s ≡ Gives (left_of left.new) s) }

@@ -25,7 +25,7 @@ pub fn point(left: &mut Evaluation<'_>) -> Result<(), NoMemory>
 }
 
 /// A place gives its address (C99 6.5.3.2).
-pub fn take_address(left: &mut Evaluation<'_>) -> Result<(), NoMemory>
+pub(crate) fn take_address(left: &mut Evaluation<'_>) -> Result<(), NoMemory>
     requires { (left_of left.old).way ≡ Ahead }
     ensures { IfOk result (λ _. (p : Program) (l : Listing) (s : State)
         → done p l tasks.Addresses (left_of left.old) s ≡ Gives (left_of left.new) s) }
@@ -35,7 +35,11 @@ pub fn take_address(left: &mut Evaluation<'_>) -> Result<(), NoMemory>
 }
 
 /// An operator on one value (C99 6.5.3.3).
-pub fn apply_unary(left: &mut Evaluation<'_>, of: IntegerType, op: UnaryOp) -> Result<(), NoMemory>
+pub(crate) fn apply_unary(
+    left: &mut Evaluation<'_>,
+    of: IntegerType,
+    op: UnaryOp,
+) -> Result<(), NoMemory>
     requires { (left_of left.old).way ≡ Ahead }
     ensures { IfOk result (λ _. (p : Program) (l : Listing) (s : State)
         → done p l (tasks.AppliesUnary of op) (left_of left.old) s ≡ Gives (left_of left.new) s) }
@@ -45,7 +49,7 @@ pub fn apply_unary(left: &mut Evaluation<'_>, of: IntegerType, op: UnaryOp) -> R
 }
 
 /// An operator on two values, or its trap (C99 6.5.5 to 6.5.12).
-pub fn apply_binary(left: &mut Evaluation<'_>, op: BinaryOp) -> Result<(), EvalEnd>
+pub(crate) fn apply_binary(left: &mut Evaluation<'_>, op: BinaryOp) -> Result<(), EvalEnd>
     requires { (left_of left.old).way ≡ Ahead }
     ensures { (p : Program) (l : Listing) (s : State)
         → Comes result (done p l (tasks.AppliesBinary op) (left_of left.old) s) (left_of left.new) s }
@@ -62,7 +66,7 @@ pub fn apply_binary(left: &mut Evaluation<'_>, op: BinaryOp) -> Result<(), EvalE
 }
 
 /// Whether a value counts as true.
-pub fn find_truth(left: &mut Evaluation<'_>) -> Result<(), NoMemory>
+pub(crate) fn find_truth(left: &mut Evaluation<'_>) -> Result<(), NoMemory>
     requires { (left_of left.old).way ≡ Ahead }
     ensures { IfOk result (λ _. (p : Program) (l : Listing) (s : State)
         → done p l tasks.Truth (left_of left.old) s ≡ Gives (left_of left.new) s) }
@@ -101,7 +105,7 @@ pub fn convert(left: &mut Evaluation<'_>, to: ValueType) -> Result<(), NoMemory>
 }
 
 /// A value isn't used (C99 6.5.17 and 6.8.3).
-pub fn drop_value(left: &mut Evaluation<'_>)
+pub(crate) fn drop_value(left: &mut Evaluation<'_>)
     requires { (left_of left.old).way ≡ Ahead }
     ensures { (p : Program) (l : Listing) (s : State)
         → done p l tasks.Drops (left_of left.old) s ≡ Gives (left_of left.new) s }
@@ -110,7 +114,7 @@ pub fn drop_value(left: &mut Evaluation<'_>)
 }
 
 /// The status that `exit` ends with (C99 7.20.4.3).
-pub fn exit_status(left: &mut Evaluation<'_>) -> u8
+pub(crate) fn exit_status(left: &mut Evaluation<'_>) -> u8
     ensures { (p : Program) (l : Listing) (s : State)
         → done p l tasks.Exits (left_of left.old) s ≡ Ends (Ended result) s }
 {

@@ -34,7 +34,7 @@ pub fn value_at(values: &[Value], first: usize, local: u32) -> Value
 
 /// Gives a local another value, where its call has it.
 #[tactic(auto, using(crate::proofs::Pieces::values_set, crate::proofs::Pieces::values_past))]
-pub fn set_value_at(values: &mut [Value], first: usize, local: u32, value: Value)
+pub(crate) fn set_value_at(values: &mut [Value], first: usize, local: u32, value: Value)
     requires { first ≤ length values.old }
     ensures { map held_of values.new ≡ slice_set (map held_of values.old) (first + local) (held_of value) }
 {
@@ -209,7 +209,7 @@ pub fn index_of(index: i32) -> Option<usize>
 }
 
 /// The element at an index, if there is one.
-pub fn element_in(elements: &[i32], index: i32) -> Option<i32>
+pub(crate) fn element_in(elements: &[i32], index: i32) -> Option<i32>
     ensures { result ≡ element_at elements.now index }
 {
     if index < 0 {

@@ -64,7 +64,7 @@ fn lex_file(alloc: Global, file: u32, text: &[u8], left: usize) -> Result<Lexed,
 
 /// The tokens of each file. The first lexical fault is answered where at most 65,536 tokens stand before it, and the
 /// limit on tokens where more do.
-pub fn lex_files(alloc: Global, texts: &[Vec<u8>]) -> Result<Vec<Lexed>, Refusal>
+pub(crate) fn lex_files(alloc: Global, texts: &[Vec<u8>]) -> Result<Vec<Lexed>, Refusal>
     requires few { length texts.now ≤ 16 }
     requires small { AllByRecursion (λ t. length t.items + 1 < 2 ^ 32) texts.now }
     ensures tokens { IfOk result (λ files. HaveTokens 0 (map (λ t. t.items) texts.now)

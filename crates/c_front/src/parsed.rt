@@ -13,7 +13,7 @@ use pcc_base::Refusal;
 use std::alloc::Global;
 
 /// The raw tree of each file, or why the first file without one has none.
-pub fn parse_files(alloc: Global, files: &[Lexed]) -> Result<Vec<RawUnit>, Refusal>
+pub(crate) fn parse_files(alloc: Global, files: &[Lexed]) -> Result<Vec<RawUnit>, Refusal>
     ensures trees { IfOk result (λ units. HaveTrees (map (λ f. f.tokens.items) files.now) (map unit_of units.items)) }
     ensures refused { IfErr result (AreUnparsed (map (λ f. f.tokens.items) files.now) (map (λ f. f.end) files.now)) }
 {

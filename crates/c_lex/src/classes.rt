@@ -6,7 +6,7 @@ ghost use Rattle.c_lex.specs.Bytes.{is_digit, is_letter, is_space};
 ghost use Rattle.c_lex.specs.Literals.{StartsNumber};
 
 /// Whether a preprocessing number begins the rest of a text (C99 6.4.8).
-pub fn starts_number(rest: &[u8]) -> bool
+pub(crate) fn starts_number(rest: &[u8]) -> bool
     ensures { IsTrue result ↔ StartsNumber rest.now }
 {
     if rest.is_empty() {
@@ -19,7 +19,7 @@ pub fn starts_number(rest: &[u8]) -> bool
 }
 
 /// Whether the byte begins a character constant or a string literal (C99 6.4.4.4, 6.4.5).
-pub fn is_quote(byte: u8) -> bool
+pub(crate) fn is_quote(byte: u8) -> bool
     ensures { result ≡ (byte == apostrophe || byte == double_quote) }
 {
     byte == b'\'' || byte == b'"'
@@ -40,7 +40,7 @@ fn is_digit(byte: u8) -> bool
 }
 
 /// Whether the byte is white space (C99 6.4).
-pub fn is_space(byte: u8) -> bool
+pub(crate) fn is_space(byte: u8) -> bool
     ensures { result ≡ is_space byte }
 {
     byte == b' ' || (b'\t' <= byte && byte <= b'\r')

@@ -22,7 +22,7 @@ fn comment_end(body: &[u8]) -> Option<usize>
 }
 
 /// The comment (C99 6.4.9), `/` or `/=` that begins the rest, and None where a comment isn't closed.
-pub fn slash_at(rest: &[u8]) -> Option<(usize, Scanned)>
+pub(crate) fn slash_at(rest: &[u8]) -> Option<(usize, Scanned)>
     requires { (others : List ℕ) × (rest.now ≡ slash ∷ others) }
     ensures { (fresh : Bool) → IsFound fresh rest.now result }
 {

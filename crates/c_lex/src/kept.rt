@@ -36,7 +36,7 @@ pub fn keep(tokens: &mut Vec<Token>, scanned: Scanned, at: Span, most: usize) ->
 }
 
 /// Whether a line may be skipped behind a piece with these bytes, where one might be before it (`fresh`).
-pub fn fresh_behind(fresh: bool, scanned: &Scanned, bytes: &[u8]) -> bool
+pub(crate) fn fresh_behind(fresh: bool, scanned: &Scanned, bytes: &[u8]) -> bool
     requires { 0 < length bytes.now }
     ensures { result ≡ fresh_after fresh (piece_of scanned.now) bytes.now }
 {

@@ -30,12 +30,10 @@ mod spaces_and_lines;
 mod token;
 mod words;
 
-pub use comments::slash_at;
 pub use laws::one_token_list;
 pub use lexer::lex;
 pub use mark_tokens::mark_at;
 pub use number_tokens::number_at;
 pub use place::advance;
-pub use radix::{base_in, worth_of};
 pub use token::{Punct, Token, TokenKind};
 pub use words::{is_word_byte, spelling};

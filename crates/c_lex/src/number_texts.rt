@@ -23,7 +23,7 @@ fn goes_on(before: u8, b: u8) -> bool
 }
 
 /// The length of the longest preprocessing number that begins the rest (C99 6.4.8).
-pub fn number_length(rest: &[u8]) -> usize
+pub(crate) fn number_length(rest: &[u8]) -> usize
     requires { StartsNumber rest.now }
     ensures within { result ≤ length rest.now }
     ensures text { IsNumberText (take result rest.now) }

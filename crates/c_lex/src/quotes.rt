@@ -176,7 +176,7 @@ fn signed(value: u8) -> i32
 /// The character constant or string literal that begins the rest (C99 6.4.4.4, 6.4.5), and None where
 /// it isn't closed, an escape is unknown or its value above 255, or a character constant doesn't hold one
 /// character.
-pub fn quote_at(alloc: Global, rest: &[u8]) -> Result<Option<(usize, Scanned)>, NoMemory>
+pub(crate) fn quote_at(alloc: Global, rest: &[u8]) -> Result<Option<(usize, Scanned)>, NoMemory>
     requires { (b : ℕ) × (others : List ℕ) × (rest.now ≡ b ∷ others) × ((b ≡ apostrophe) ⊎ (b ≡ double_quote)) }
     ensures { (fresh : Bool) → IsScan fresh rest.now result }
 {

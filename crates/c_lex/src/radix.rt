@@ -11,7 +11,7 @@ pub enum Radix {
 }
 
 /// The base as a number.
-pub fn base_in(radix: Radix) -> u64
+pub(crate) fn base_in(radix: Radix) -> u64
     ensures value { result ≡ base_of radix }
     ensures small { result ≤ 16 }
 {
@@ -23,7 +23,7 @@ pub fn base_in(radix: Radix) -> u64
 }
 
 /// What a digit of a base is worth, and None where the byte is no digit of it.
-pub fn worth_of(radix: Radix, b: u8) -> Option<u64>
+pub(crate) fn worth_of(radix: Radix, b: u8) -> Option<u64>
     ensures { MatchOption result (IsFalse (is_digit_of radix b)) (λ worth. IsTrue (is_digit_of radix b)
         × (worth ≡ digit_worth b) × (worth < 16)) }
 {

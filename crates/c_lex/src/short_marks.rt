@@ -4,7 +4,7 @@ ghost use Rattle.c_lex.specs.Scans.{IsMarkOf};
 use crate::token::Punct;
 
 /// The punctuator of two bytes, or the mark that a digraph spells (C99 6.4.6).
-pub fn mark_of_two(first: u8, second: u8) -> Option<Punct>
+pub(crate) fn mark_of_two(first: u8, second: u8) -> Option<Punct>
     ensures { IsMarkOf (first ∷ second ∷ []) result }
 {
     match (first, second) {
@@ -36,7 +36,7 @@ pub fn mark_of_two(first: u8, second: u8) -> Option<Punct>
 }
 
 /// The punctuator of one byte (C99 6.4.6).
-pub fn mark_of_one(first: u8) -> Option<Punct>
+pub(crate) fn mark_of_one(first: u8) -> Option<Punct>
     ensures { IsMarkOf (first ∷ []) result }
 {
     match first {

@@ -10,7 +10,7 @@ use crate::scanned::Scanned;
 use crate::words::is_word_byte;
 
 /// The byte of white space that begins the rest.
-pub fn space_at(rest: &[u8]) -> Option<(usize, Scanned)>
+pub(crate) fn space_at(rest: &[u8]) -> Option<(usize, Scanned)>
     requires { (b : ℕ) × (others : List ℕ) × (rest.now ≡ b ∷ others) × IsTrue (is_space b) }
     ensures { (fresh : Bool) → IsFound fresh rest.now result }
 {
@@ -19,7 +19,7 @@ pub fn space_at(rest: &[u8]) -> Option<(usize, Scanned)>
 }
 
 /// How many bytes there are before the newline, or before the end where there is none.
-pub fn line_length(bytes: &[u8]) -> usize
+pub(crate) fn line_length(bytes: &[u8]) -> usize
     ensures count { result ≡ prefix_len (λ b. not (b == newline)) bytes.now }
     ensures within { result ≤ length bytes.now }
 {
@@ -73,7 +73,7 @@ fn is_marker(behind: &[u8]) -> bool
 
 /// The line that is skipped, where one may be and `#` is followed by a digit or the word `pragma`, and
 /// None elsewhere.
-pub fn hash_at(fresh: bool, rest: &[u8]) -> Option<(usize, Scanned)>
+pub(crate) fn hash_at(fresh: bool, rest: &[u8]) -> Option<(usize, Scanned)>
     requires { (others : List ℕ) × (rest.now ≡ hash ∷ others) }
     ensures { IsFound fresh rest.now result }
 {

@@ -26,7 +26,10 @@ use c_syntax::Statement;
 use pcc_base::{Keyword, Span};
 
 /// A statement below a node of this height; where there is none, the fault is that of a block's item.
-pub fn statement_below(cursor: &mut Cursor<'_>, height: Height) -> Result<Statement, ParseError>
+pub(crate) fn statement_below(
+    cursor: &mut Cursor<'_>,
+    height: Height,
+) -> Result<Statement, ParseError>
     ensures { IsRead stmt_of (below_node height.levels).statement cursor.old.rest.now cursor.new.rest.now result }
 {
     let Some(lower) = height.lower() else {

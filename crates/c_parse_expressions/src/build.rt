@@ -27,7 +27,7 @@ pub fn found_of(alloc: Global, tree: Expression, height: u32) -> Result<Found, N
 
 /// An expression in parentheses (C99 6.5.1).
 #[inline(never)]
-pub fn parenthesised_node(
+pub(crate) fn parenthesised_node(
     alloc: Global,
     opening: Span,
     inner: Found,
@@ -48,7 +48,7 @@ pub fn parenthesised_node(
 
 /// An operator between two operands (C99 6.5.5 to 6.5.14, and the `,` of 6.5.17).
 #[inline(never)]
-pub fn binary_node(
+pub(crate) fn binary_node(
     alloc: Global,
     op: BinaryOp,
     left: Found,

@@ -11,7 +11,7 @@ use c_lex::{Punct, Token};
 use pcc_base::Span;
 
 /// Whether a specifier stands at the front.
-pub fn begins_with_specifier(tokens: &[Token]) -> bool
+pub(crate) fn begins_with_specifier(tokens: &[Token]) -> bool
     ensures yes { OnTrue result (BeginsWithSpecifier tokens.now) }
     ensures no { OnFalse result (take_specifiers tokens.now ≡ ([], tokens.now)) }
 {
@@ -25,7 +25,7 @@ pub fn begins_with_specifier(tokens: &[Token]) -> bool
 }
 
 /// A `(` that begins a cast, since a specifier stands behind it: its place, and the tokens behind it.
-pub fn cast_at(tokens: &[Token]) -> Option<(Span, &[Token])>
+pub(crate) fn cast_at(tokens: &[Token]) -> Option<(Span, &[Token])>
     ensures some { IfSome result (λ p. (take_mark Punct.LeftParen tokens.now ≡ Some (p.0, p.1.now))
         × BeginsWithSpecifier p.1.now) }
     ensures none { IfNone result ((height : ℕ) (below : Readers) → read_cast height below tokens.now

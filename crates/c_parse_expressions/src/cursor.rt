@@ -59,7 +59,7 @@ impl Cursor<'_> {
     }
 
     /// Takes a `(` that begins a cast: a specifier stands behind it.
-    pub fn take_cast(&mut self) -> Option<Span>
+    pub(crate) fn take_cast(&mut self) -> Option<Span>
         ensures some { IfSome result (λ at. (take_mark Punct.LeftParen self.old.rest.now ≡ Some (at, self.new.rest.now))
             × BeginsWithSpecifier self.new.rest.now) }
         ensures none { IfNone result ((height : ℕ) (below : Readers) → read_cast height below self.old.rest.now
@@ -126,7 +126,7 @@ impl Cursor<'_> {
 
     /// The level of the operator between operands that comes next, or one that is above all where none does: no
     /// operator of a tighter level comes.
-    pub fn next_level(&self) -> usize
+    pub(crate) fn next_level(&self) -> usize
         ensures { (k : ℕ) → k < result → take_binary k self.now.rest.now ≡ None }
     {
         match self.rest.first() {

@@ -23,8 +23,7 @@ mod repeated_tokens;
 mod token_operators;
 mod turn;
 
-pub use build::{binary_node, found_of, one_more, one_value, parenthesised_node};
-pub use casts::{begins_with_specifier, cast_at};
+pub use build::{found_of, one_more, one_value};
 pub use cursor::Cursor;
 pub use expression::{Rule, tree_of};
 pub use found::{Found, Values};

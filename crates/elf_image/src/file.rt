@@ -3,10 +3,8 @@
 ghost use Rattle.std.specs.Prelude.{◌≡◌, IfOk, IsErrOf};
 ghost use Rattle.elf_image.specs.Segments.{IsLoadable, Loads, Segments, segments_of};
 
-use crate::{
-    ImageRefusal, Loaded, are_few, are_sound, has_headers, is_executable, load_headers, read_word,
-    segments,
-};
+use crate::reading::{are_few, are_sound, has_headers, is_executable, load_headers};
+use crate::{ImageRefusal, Loaded, read_word, segments};
 use std::alloc::Global;
 
 /// Where the field `e_entry` of the ELF header stands.

@@ -24,5 +24,5 @@ pub use image::{Image, STACK_BYTES, TEXT_ADDRESS};
 pub use laws::{image_length, image_loads, image_parts_lie_in_file, one_image, worked_segments};
 pub use loaded::{ImageRefusal, Loaded, Segment};
 pub use program_header::{ProgramHeader, read_word};
-pub use reading::{are_few, are_sound, has_headers, is_executable, load_headers, segments};
+pub use reading::segments;
 pub use writing::write_image;

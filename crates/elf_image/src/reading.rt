@@ -39,7 +39,7 @@ const ET_EXEC: u16 = 2;
 const EM_386: u16 = 3;
 
 /// The ELF header is that of a program for the Intel 80386, and at least one program header follows.
-pub fn is_executable(bytes: &[u8]) -> bool
+pub(crate) fn is_executable(bytes: &[u8]) -> bool
     ensures { Decides result (IsExecutable bytes.now) }
 {
     if bytes.len() < ELF_HEADER {
@@ -54,7 +54,7 @@ pub fn is_executable(bytes: &[u8]) -> bool
 }
 
 /// All program headers lie in the file.
-pub fn has_headers(bytes: &[u8]) -> bool
+pub(crate) fn has_headers(bytes: &[u8]) -> bool
     requires { 52 ≤ length bytes.now }
     ensures { Decides result (IsFilePart bytes.now (headers_offset bytes.now) (32 * header_count bytes.now)) }
 {
@@ -64,7 +64,7 @@ pub fn has_headers(bytes: &[u8]) -> bool
 }
 
 /// The program headers whose segments are loaded, in order.
-pub fn load_headers(alloc: Global, bytes: &[u8]) -> Result<Vec<ProgramHeader>, NoMemory>
+pub(crate) fn load_headers(alloc: Global, bytes: &[u8]) -> Result<Vec<ProgramHeader>, NoMemory>
     requires long { 52 ≤ length bytes.now }
     requires in_file { IsFilePart bytes.now (headers_offset bytes.now) (32 * header_count bytes.now) }
     ensures { IfOk result (λ headers. map header_of headers.items ≡ loads_in (header_count bytes.now) bytes.now) }
@@ -81,7 +81,7 @@ pub fn load_headers(alloc: Global, bytes: &[u8]) -> Result<Vec<ProgramHeader>, N
 }
 
 /// Each segment's bytes lie in the file, fit into its memory, and this ends within the address space.
-pub fn are_sound(bytes: &[u8], headers: &[ProgramHeader]) -> bool
+pub(crate) fn are_sound(bytes: &[u8], headers: &[ProgramHeader]) -> bool
     ensures { Decides result (All (λ h. IsInFile bytes.now h × IsPiece (piece_at bytes.now h))
         (map header_of headers.now)) }
 {
@@ -89,7 +89,7 @@ pub fn are_sound(bytes: &[u8], headers: &[ProgramHeader]) -> bool
 }
 
 /// The segments have no more memory together than a machine has.
-pub fn are_few(headers: &[ProgramHeader]) -> bool
+pub(crate) fn are_few(headers: &[ProgramHeader]) -> bool
     ensures { Decides result (sum_by (λ h. h.memory_size) (map header_of headers.now) ≤ 1342177280) }
 {
     let mut free = MEMORY_LIMIT;

@@ -93,7 +93,7 @@ pub fn function_of(section: &Section) -> usize
 
 /// The addresses of the elements of objects that stand one behind the other from an address on, and where
 /// they end.
-pub fn objects_from(
+pub(crate) fn objects_from(
     alloc: Global,
     objects: &Vec<DataObject>,
     start: u32,

@@ -6,7 +6,7 @@ use pcc_base::NoMemory;
 use std::alloc::Global;
 
 /// The number of the interrupt by which a program calls the system (Linux on i386).
-pub const SYSTEM: u8 = 0x80;
+pub(crate) const SYSTEM: u8 = 0x80;
 
 /// The number of the call `exit` (Linux on i386).
 pub const EXIT: i32 = 1;

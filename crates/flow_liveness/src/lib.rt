@@ -28,4 +28,4 @@ pub use form_laws::{form_keeps_meaning, names_are_fresh, worked_example};
 pub use lists::Lists;
 pub use live_sets::live;
 pub use marks::Marks;
-pub use search_back::{Search, is_live_before};
+pub use search_back::Search;

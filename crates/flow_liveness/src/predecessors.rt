@@ -78,7 +78,7 @@ fn add_block(
 }
 
 /// For each point of a graph those that lead to it.
-pub fn predecessors_of(alloc: Global, graph: &Graph) -> Result<Lists<u32>, NoMemory>
+pub(crate) fn predecessors_of(alloc: Global, graph: &Graph) -> Result<Lists<u32>, NoMemory>
     ensures { IfOk result (ArePredecessors graph.now) }
 {
     let mut predecessors = Lists::new(alloc, graph.points())?;

@@ -23,7 +23,7 @@ pub struct Search {
 }
 
 /// Whether a variable is live before a point, where its next use is so many steps away.
-pub fn is_live_before(graph: &Graph, var: u32, point: u32, steps: u32) -> bool
+pub(crate) fn is_live_before(graph: &Graph, var: u32, point: u32, steps: u32) -> bool
     requires { IsNext graph.now var point steps }
     ensures { MatchBool result
         (ReachesUse graph.now var steps point)

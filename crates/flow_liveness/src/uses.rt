@@ -10,7 +10,7 @@ use pcc_base::NoMemory;
 use std::alloc::Global;
 
 /// For each variable of a graph the points that use it.
-pub fn uses_of(alloc: Global, graph: &Graph) -> Result<Lists<u32>, NoMemory>
+pub(crate) fn uses_of(alloc: Global, graph: &Graph) -> Result<Lists<u32>, NoMemory>
     ensures { IfOk result (AreUses graph.now) }
 {
     let mut uses = Lists::new(alloc, graph.vars())?;

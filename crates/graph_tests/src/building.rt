@@ -10,7 +10,7 @@ use std::alloc::Global;
 use std::process::Abort;
 
 /// A graph with no variables and one empty block, block 0.
-pub fn empty_graph(rt: &impl Abort, alloc: Global) -> Graph
+pub(crate) fn empty_graph(rt: &impl Abort, alloc: Global) -> Graph
     ensures { result ≡ empty_flow }
 {
     Graph::new(alloc).expect(rt, "a graph")

@@ -9,7 +9,7 @@ use arrayvec::ArrayVec;
 use ia32_insn::{Mem, Reg32, Rm8, Rm32};
 
 /// Appends the bytes.
-pub fn push_bytes(out: &mut ArrayVec<u8, 15>, bytes: &[u8])
+pub(crate) fn push_bytes(out: &mut ArrayVec<u8, 15>, bytes: &[u8])
     requires { array_vec_len out.old + length bytes.now ≤ 15 }
     ensures items { out.new.items ≡ out.old.items ++ bytes.now }
     ensures len { array_vec_len out.new ≡ array_vec_len out.old + length bytes.now }
@@ -121,7 +121,7 @@ fn push_displacement(out: &mut ArrayVec<u8, 15>, base: Option<Reg32>, disp: i32)
 }
 
 /// Appends ModRM with this reg field, and what follows it for the memory operand.
-pub fn push_memory(out: &mut ArrayVec<u8, 15>, reg: u8, m: &Mem)
+pub(crate) fn push_memory(out: &mut ArrayVec<u8, 15>, reg: u8, m: &Mem)
     requires reg { reg < 8 }
     requires room { array_vec_len out.old + 6 ≤ 15 }
     ensures items { out.new.items ≡ out.old.items ++ preferred.fields_for reg (InMemory m.now) }
@@ -140,7 +140,7 @@ pub fn push_memory(out: &mut ArrayVec<u8, 15>, reg: u8, m: &Mem)
 }
 
 /// Appends ModRM with this reg field, and what follows it for the operand of 32 or 16 bits.
-pub fn push_operand32(out: &mut ArrayVec<u8, 15>, reg: u8, operand: &Rm32)
+pub(crate) fn push_operand32(out: &mut ArrayVec<u8, 15>, reg: u8, operand: &Rm32)
     requires reg { reg < 8 }
     requires room { array_vec_len out.old + 6 ≤ 15 }
     ensures items { out.new.items ≡ out.old.items ++ preferred.fields_for reg (operand32 operand.now) }
@@ -154,7 +154,7 @@ pub fn push_operand32(out: &mut ArrayVec<u8, 15>, reg: u8, operand: &Rm32)
 }
 
 /// Appends ModRM with this reg field, and what follows it for the operand of 8 bits.
-pub fn push_operand8(out: &mut ArrayVec<u8, 15>, reg: u8, operand: &Rm8)
+pub(crate) fn push_operand8(out: &mut ArrayVec<u8, 15>, reg: u8, operand: &Rm8)
     requires reg { reg < 8 }
     requires room { array_vec_len out.old + 6 ≤ 15 }
     ensures items { out.new.items ≡ out.old.items ++ preferred.fields_for reg (operand8 operand.now) }

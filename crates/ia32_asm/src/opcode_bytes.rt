@@ -48,7 +48,7 @@ pub fn row8(opcode: &[u8], reg: u8, operand: &Rm8) -> ArrayVec<u8, 15>
 }
 
 /// The same for memory.
-pub fn row_memory(opcode: &[u8], reg: u8, m: &Mem) -> ArrayVec<u8, 15>
+pub(crate) fn row_memory(opcode: &[u8], reg: u8, m: &Mem) -> ArrayVec<u8, 15>
     requires opcode { length opcode.now ≤ 2 }
     requires reg { reg < 8 }
     ensures bytes { result.items ≡ opcode.now ++ preferred.fields_for reg (InMemory m.now) }

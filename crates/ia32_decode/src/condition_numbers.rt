@@ -7,7 +7,7 @@ use ia32_insn::{AluOp, Cond, Reg8, ShiftOp};
 
 /// The register of 8 bits with this number (Intel manual, volume 2, table 3-1).
 #[tactic(auto, unfolding(ia32_insn::specs::Reading::byte_register_at))]
-pub fn byte_register_of(number: u8) -> Reg8
+pub(crate) fn byte_register_of(number: u8) -> Reg8
     ensures { result ≡ byte_register_at number }
 {
     match number {
@@ -49,7 +49,7 @@ pub fn condition_of(number: u8) -> Cond
 
 /// The operation of two operands with this number. ADC and SBB, numbers 2 and 3, are none.
 #[tactic(auto, unfolding(ia32_insn::specs::Reading::operation_at))]
-pub fn operation_of(number: u8) -> Option<AluOp>
+pub(crate) fn operation_of(number: u8) -> Option<AluOp>
     ensures { result ≡ operation_at number }
 {
     match number {
@@ -65,7 +65,7 @@ pub fn operation_of(number: u8) -> Option<AluOp>
 
 /// The shift with this number. The rotations are none.
 #[tactic(auto, unfolding(ia32_insn::specs::Reading::shift_at))]
-pub fn shift_of(number: u8) -> Option<ShiftOp>
+pub(crate) fn shift_of(number: u8) -> Option<ShiftOp>
     ensures { result ≡ shift_at number }
 {
     match number {

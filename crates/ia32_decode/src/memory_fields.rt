@@ -18,7 +18,7 @@ use ia32_insn::{Mem, Reg32};
 
 /// The signed number in one byte or four from a place on, the lowest first.
 #[tactic(auto, unfolding(ia32_insn::specs::Reading::read_signed))]
-pub fn signed_at(bytes: &[u8], place: usize, size: usize) -> Option<i32>
+pub(crate) fn signed_at(bytes: &[u8], place: usize, size: usize) -> Option<i32>
     requires { (size ≡ 1) ⊎ (size ≡ 4) }
     ensures { result ≡ read_signed size (drop place bytes.now) }
 {

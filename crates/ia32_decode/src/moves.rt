@@ -16,7 +16,7 @@ pub fn mov(to: Reg32, operand: Rm32) -> Insn
 }
 
 /// MOV r8, r/m8, with the destination in the reg field.
-pub fn mov8(to: Reg8, operand: Rm8) -> Insn
+pub(crate) fn mov8(to: Reg8, operand: Rm8) -> Insn
     ensures { result ≡ mov8_from to operand }
 {
     match operand {

@@ -26,7 +26,7 @@ use ia32_insn::{AluOp, Insn, Reg32, Rm8, Rm32};
 
 /// No fields: PUSH r32, POP r32, NOP, CDQ, RET, LEAVE.
 #[tactic(auto, unfolding(ia32_insn::specs::Reading::lone_insn))]
-pub fn of_opcode(opcode: u8) -> Option<Insn>
+pub(crate) fn of_opcode(opcode: u8) -> Option<Insn>
     ensures { result ≡ lone_insn opcode }
 {
     match opcode {
@@ -42,7 +42,7 @@ pub fn of_opcode(opcode: u8) -> Option<Insn>
 
 /// A byte: MOV r8, imm8 and INT imm8.
 #[tactic(auto, unfolding(ia32_insn::specs::Reading::byte_insn))]
-pub fn of_byte(opcode: u8, number: u8) -> Option<Insn>
+pub(crate) fn of_byte(opcode: u8, number: u8) -> Option<Insn>
     ensures { result ≡ byte_insn opcode number }
 {
     match opcode {
@@ -54,7 +54,7 @@ pub fn of_byte(opcode: u8, number: u8) -> Option<Insn>
 
 /// A signed byte: Jcc rel8 and JMP rel8.
 #[tactic(auto, unfolding(ia32_insn::specs::Reading::short_insn))]
-pub fn of_short(opcode: u8, number: i32) -> Option<Insn>
+pub(crate) fn of_short(opcode: u8, number: i32) -> Option<Insn>
     ensures { result ≡ short_insn opcode number }
 {
     match opcode {
@@ -66,7 +66,7 @@ pub fn of_short(opcode: u8, number: i32) -> Option<Insn>
 
 /// Four bytes: PUSH imm32, MOV r32, imm32, CALL rel32 and JMP rel32.
 #[tactic(auto, unfolding(ia32_insn::specs::Reading::long_insn))]
-pub fn of_long(opcode: u8, number: i32) -> Option<Insn>
+pub(crate) fn of_long(opcode: u8, number: i32) -> Option<Insn>
     ensures { result ≡ long_insn opcode number }
 {
     match opcode {
@@ -128,7 +128,7 @@ fn unary(number: u8, operand: Rm32) -> Option<Insn>
 /// An operand of 32 bits: the operations of two operands, TEST, XCHG, MOV, LEA, the shifts by CL, NOT, NEG,
 /// DIV, IDIV, and PUSH r/m32.
 #[tactic(auto, unfolding(ia32_insn::specs::Reading::fields32_insn))]
-pub fn of_fields32(opcode: u8, reg: u8, operand: Rm32) -> Option<Insn>
+pub(crate) fn of_fields32(opcode: u8, reg: u8, operand: Rm32) -> Option<Insn>
     ensures { result ≡ fields32_insn opcode reg operand }
 {
     match opcode {
@@ -150,7 +150,7 @@ pub fn of_fields32(opcode: u8, reg: u8, operand: Rm32) -> Option<Insn>
 
 /// An operand of 8 bits: XCHG and MOV.
 #[tactic(auto, unfolding(ia32_insn::specs::Reading::fields8_insn))]
-pub fn of_fields8(opcode: u8, reg: u8, operand: Rm8) -> Option<Insn>
+pub(crate) fn of_fields8(opcode: u8, reg: u8, operand: Rm8) -> Option<Insn>
     ensures { result ≡ fields8_insn opcode reg operand }
 {
     match opcode {
@@ -163,7 +163,7 @@ pub fn of_fields8(opcode: u8, reg: u8, operand: Rm8) -> Option<Insn>
 
 /// An operand of 32 bits and a signed number after it: the operations of two operands, and MOV.
 #[tactic(auto, unfolding(ia32_insn::specs::Reading::immediate_insn))]
-pub fn of_immediate(opcode: u8, reg: u8, operand: Rm32, number: i32) -> Option<Insn>
+pub(crate) fn of_immediate(opcode: u8, reg: u8, operand: Rm32, number: i32) -> Option<Insn>
     ensures { result ≡ immediate_insn opcode reg operand number }
 {
     match opcode {
@@ -175,7 +175,7 @@ pub fn of_immediate(opcode: u8, reg: u8, operand: Rm32, number: i32) -> Option<I
 
 /// After 0F, an operand of 32 or 16 bits: IMUL, and MOVZX and MOVSX from 16 bits.
 #[tactic(auto, unfolding(ia32_insn::specs::Reading::extended32_insn))]
-pub fn of_extended32(opcode: u8, reg: u8, operand: Rm32) -> Option<Insn>
+pub(crate) fn of_extended32(opcode: u8, reg: u8, operand: Rm32) -> Option<Insn>
     ensures { result ≡ extended32_insn opcode reg operand }
 {
     match opcode {
@@ -188,7 +188,7 @@ pub fn of_extended32(opcode: u8, reg: u8, operand: Rm32) -> Option<Insn>
 
 /// After 0F, an operand of 8 bits: SETcc, with any reg field, and MOVZX and MOVSX from 8 bits.
 #[tactic(auto, unfolding(ia32_insn::specs::Reading::extended8_insn))]
-pub fn of_extended8(opcode: u8, reg: u8, operand: Rm8) -> Option<Insn>
+pub(crate) fn of_extended8(opcode: u8, reg: u8, operand: Rm8) -> Option<Insn>
     ensures { result ≡ extended8_insn opcode reg operand }
 {
     match opcode {
@@ -201,7 +201,7 @@ pub fn of_extended8(opcode: u8, reg: u8, operand: Rm8) -> Option<Insn>
 
 /// After 66: MOV r/m16, r16.
 #[tactic(auto, unfolding(ia32_insn::specs::Reading::sixteen_insn))]
-pub fn of_sixteen(opcode: u8, reg: u8, operand: Rm32) -> Option<Insn>
+pub(crate) fn of_sixteen(opcode: u8, reg: u8, operand: Rm32) -> Option<Insn>
     ensures { result ≡ sixteen_insn opcode reg operand }
 {
     match opcode {

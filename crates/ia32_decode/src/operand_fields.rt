@@ -22,7 +22,7 @@ pub fn byte_at(bytes: &[u8], place: usize) -> Option<u8>
 
 /// The number in the reg field, and the operand of 32 or 16 bits in the r/m field.
 #[tactic(auto, unfolding(ia32_insn::specs::Reading::read_fields, ia32_insn::specs::Reading::read_fields32))]
-pub fn fields32(bytes: &[u8]) -> Option<(u8, Rm32, usize)>
+pub(crate) fn fields32(bytes: &[u8]) -> Option<(u8, Rm32, usize)>
     ensures same { result ≡ read_fields32 bytes.now }
     ensures short { IfSome result (λ found. found.2 ≤ 6) }
 {
@@ -40,7 +40,7 @@ pub fn fields32(bytes: &[u8]) -> Option<(u8, Rm32, usize)>
 
 /// The number in the reg field, and the operand of 8 bits in the r/m field.
 #[tactic(auto, unfolding(ia32_insn::specs::Reading::read_fields, ia32_insn::specs::Reading::read_fields8))]
-pub fn fields8(bytes: &[u8]) -> Option<(u8, Rm8, usize)>
+pub(crate) fn fields8(bytes: &[u8]) -> Option<(u8, Rm8, usize)>
     ensures same { result ≡ read_fields8 bytes.now }
     ensures short { IfSome result (λ found. found.2 ≤ 6) }
 {

@@ -78,7 +78,7 @@ fn emit_drop_some(out: &mut Vec<Item>, words: usize) -> Result<(), NoMemory>
 }
 
 /// So many argument words off the stack.
-pub fn emit_drop_words(out: &mut Vec<Item>, words: usize) -> Result<(), NoMemory>
+pub(crate) fn emit_drop_words(out: &mut Vec<Item>, words: usize) -> Result<(), NoMemory>
     requires { words < 2 ^ 29 }
     ensures { OnOk result (out.new.items ≡ out.old.items ++ drop_words words) }
 {
@@ -90,7 +90,7 @@ pub fn emit_drop_words(out: &mut Vec<Item>, words: usize) -> Result<(), NoMemory
 }
 
 /// The result to its place, where it is wanted.
-pub fn emit_write_any(out: &mut Vec<Item>, to: Option<Location>) -> Result<(), NoMemory>
+pub(crate) fn emit_write_any(out: &mut Vec<Item>, to: Option<Location>) -> Result<(), NoMemory>
     ensures { OnOk result (out.new.items ≡ out.old.items ++ write_any (option_map place_of to)) }
 {
     match to {

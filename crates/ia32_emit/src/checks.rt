@@ -93,7 +93,11 @@ fn emit_check_index(out: &mut Vec<Item>, array: Location, index: Location) -> Re
 }
 
 /// Both checks, before anything is touched.
-pub fn emit_checking(out: &mut Vec<Item>, array: Location, index: Location) -> Result<(), NoMemory>
+pub(crate) fn emit_checking(
+    out: &mut Vec<Item>,
+    array: Location,
+    index: Location,
+) -> Result<(), NoMemory>
     ensures { OnOk result (out.new.items ≡ out.old.items ++ checking (place_of array) (place_of index)) }
 {
     emit_check_array(out, array)?;

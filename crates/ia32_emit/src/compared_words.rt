@@ -42,7 +42,11 @@ fn emit_compare_slot(out: &mut Vec<Item>, first: i32, second: Location) -> Resul
 }
 
 /// CMP of two words where they stand; the first through ESI where both are in memory.
-pub fn emit_compare(out: &mut Vec<Item>, first: Location, second: Location) -> Result<(), NoMemory>
+pub(crate) fn emit_compare(
+    out: &mut Vec<Item>,
+    first: Location,
+    second: Location,
+) -> Result<(), NoMemory>
     ensures { OnOk result (out.new.items ≡ out.old.items ++ comparing (place_of first) (place_of second)) }
 {
     match first {
@@ -79,7 +83,7 @@ fn emit_truth_slot(out: &mut Vec<Item>, condition: Cond, offset: i32) -> Result<
 }
 
 /// 1 or 0 to a place, by a condition.
-pub fn emit_truth(out: &mut Vec<Item>, condition: Cond, to: Location) -> Result<(), NoMemory>
+pub(crate) fn emit_truth(out: &mut Vec<Item>, condition: Cond, to: Location) -> Result<(), NoMemory>
     ensures { OnOk result (out.new.items ≡ out.old.items ++ set_row condition (place_of to)) }
 {
     match to {

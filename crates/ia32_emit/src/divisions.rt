@@ -60,7 +60,7 @@ pub fn divisor_of(divisor: Location) -> Rm32
 }
 
 /// What stands before a division: the divisor out of the way, the first operand to EAX, and its sign to EDX.
-pub fn emit_before_division(
+pub(crate) fn emit_before_division(
     out: &mut Vec<Item>,
     first: Location,
     second: Location,

@@ -8,7 +8,7 @@ use ia32_insn::{Insn, Item};
 use pcc_base::NoMemory;
 
 /// These items, in their order.
-pub fn emit_all(out: &mut Vec<Item>, items: &[Item]) -> Result<(), NoMemory>
+pub(crate) fn emit_all(out: &mut Vec<Item>, items: &[Item]) -> Result<(), NoMemory>
     ensures { OnOk result (out.new.items ≡ out.old.items ++ items.now) }
 {
     out.extend_from_slice(items)?;

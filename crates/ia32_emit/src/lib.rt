@@ -34,7 +34,7 @@ pub use comparisons::{emit_branch, emit_set};
 pub use instructions::{emit, emit_insns, emit_three, emit_two};
 pub use loads::{emit_get, emit_load};
 pub use locations::{Location, at_offset, at_register};
-pub use moves::{emit_copy, emit_copy_byte, emit_number, emit_operate};
+pub use moves::{emit_copy, emit_number};
 pub use operations::{emit_commuting, emit_operation, emit_sum};
 pub use products::{emit_complement, emit_half, emit_low, emit_negation, emit_product};
 pub use prologues::emit_prologue;

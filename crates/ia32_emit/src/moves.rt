@@ -24,7 +24,7 @@ fn emit_move(out: &mut Vec<Item>, to: Reg32, from: Reg32) -> Result<(), NoMemory
 }
 
 /// The word of a place to a register, unless it stands there; a byte with its sign.
-pub fn emit_read(out: &mut Vec<Item>, to: Reg32, from: Location) -> Result<(), NoMemory>
+pub(crate) fn emit_read(out: &mut Vec<Item>, to: Reg32, from: Location) -> Result<(), NoMemory>
     ensures { OnOk result (out.new.items ≡ out.old.items ++ read to (place_of from)) }
 {
     match from {
@@ -35,7 +35,7 @@ pub fn emit_read(out: &mut Vec<Item>, to: Reg32, from: Location) -> Result<(), N
 }
 
 /// The word of a register to a place, unless it stands there; its low byte to a byte, by the word of scratch.
-pub fn emit_write(out: &mut Vec<Item>, to: Location, from: Reg32) -> Result<(), NoMemory>
+pub(crate) fn emit_write(out: &mut Vec<Item>, to: Location, from: Reg32) -> Result<(), NoMemory>
     ensures { OnOk result (out.new.items ≡ out.old.items ++ write (place_of to) from) }
 {
     match to {
@@ -50,7 +50,7 @@ pub fn emit_write(out: &mut Vec<Item>, to: Location, from: Reg32) -> Result<(), 
 }
 
 /// An operation on a register, with the second operand where it stands.
-pub fn emit_operate(
+pub(crate) fn emit_operate(
     out: &mut Vec<Item>,
     how: AluOp,
     register: Reg32,
@@ -99,7 +99,7 @@ fn emit_copy_word(out: &mut Vec<Item>, from: Reg32, to: Location) -> Result<(), 
 }
 
 /// A byte register to a place.
-pub fn emit_copy_byte(out: &mut Vec<Item>, from: Reg8, to: Location) -> Result<(), NoMemory>
+pub(crate) fn emit_copy_byte(out: &mut Vec<Item>, from: Reg8, to: Location) -> Result<(), NoMemory>
     ensures { OnOk result (out.new.items ≡ out.old.items ++ copy_row (place_of (location.Byte from)) (place_of to)) }
 {
     match to {
@@ -136,7 +136,7 @@ pub fn emit_copy(out: &mut Vec<Item>, from: Location, to: Location) -> Result<()
 }
 
 /// The word of a place onto the stack.
-pub fn emit_pass(out: &mut Vec<Item>, from: Location) -> Result<(), NoMemory>
+pub(crate) fn emit_pass(out: &mut Vec<Item>, from: Location) -> Result<(), NoMemory>
     ensures { OnOk result (out.new.items ≡ out.old.items ++ pass (place_of from)) }
 {
     match from {

@@ -35,7 +35,7 @@ pub fn emit_return(out: &mut Vec<Item>, from: Location) -> Result<(), NoMemory>
 }
 
 /// One call more is active, unless 4,096 are.
-pub fn emit_deepen(out: &mut Vec<Item>) -> Result<(), NoMemory>
+pub(crate) fn emit_deepen(out: &mut Vec<Item>) -> Result<(), NoMemory>
     ensures { OnOk result (out.new.items ≡ out.old.items ++ deepen) }
 {
     let depth = Rm32::Mem(at_register(Reg32::Esi));
@@ -51,7 +51,7 @@ pub fn emit_deepen(out: &mut Vec<Item>) -> Result<(), NoMemory>
 }
 
 /// One call less is active.
-pub fn emit_undeepen(out: &mut Vec<Item>) -> Result<(), NoMemory>
+pub(crate) fn emit_undeepen(out: &mut Vec<Item>) -> Result<(), NoMemory>
     ensures { OnOk result (out.new.items ≡ out.old.items ++ undeepen) }
 {
     let depth = Rm32::Mem(at_register(Reg32::Esi));

@@ -96,7 +96,7 @@ fn emit_store_behind(
 }
 
 /// A value to an element: directly, where it stands in a register.
-pub fn emit_store_at(
+pub(crate) fn emit_store_at(
     out: &mut Vec<Item>,
     bits: Bits,
     to: Mem,

@@ -72,7 +72,7 @@ impl Processor {
 
     /// The next instruction is at this address.
     #[inline]
-    pub fn set_eip(&mut self, address: u32)
+    pub(crate) fn set_eip(&mut self, address: u32)
         ensures { self.new ≡ state.at_address address self.old }
     {
         self.eip = address;
@@ -96,7 +96,7 @@ impl Processor {
 
     /// The flags become these, or unknown.
     #[inline]
-    pub fn set_flags(&mut self, flags: Option<Flags>)
+    pub(crate) fn set_flags(&mut self, flags: Option<Flags>)
         ensures { self.new ≡ with_flags flags self.old }
     {
         self.flags = flags;
@@ -112,7 +112,7 @@ impl Processor {
 
     /// Changes a register of 32 bits.
     #[inline]
-    pub fn set_word(&mut self, r: Reg32, value: u32)
+    pub(crate) fn set_word(&mut self, r: Reg32, value: u32)
         ensures { self.new ≡ with_word r value self.old }
     {
         self.registers.set32(r, value);
@@ -128,7 +128,7 @@ impl Processor {
 
     /// Changes a register of 8 bits.
     #[inline]
-    pub fn set_byte(&mut self, r: Reg8, value: u8)
+    pub(crate) fn set_byte(&mut self, r: Reg8, value: u8)
         ensures { self.new ≡ with_byte r value self.old }
     {
         self.registers.set8(r, value);

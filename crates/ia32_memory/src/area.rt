@@ -54,7 +54,7 @@ impl Model for Area {
 
 /// The memory of a segment: its bytes, and then zeros up to its size. The only refusal is want of
 /// memory.
-pub fn area_from(alloc: Global, segment: &Segment) -> Result<Area, NoMemory>
+pub(crate) fn area_from(alloc: Global, segment: &Segment) -> Result<Area, NoMemory>
     requires { IsPiece (piece_of segment.now) }
     ensures { IfOk result (λ area. area ≡ area_of (piece_of segment.now)) }
 {

@@ -55,7 +55,7 @@ fn emit_clear_loop(out: &mut Vec<Item>, label: u32) -> Result<(), NoMemory>
 }
 
 /// Makes every element 0 of a frame array whose element 0 stands at an offset from EBP.
-pub fn emit_clear(
+pub(crate) fn emit_clear(
     out: &mut Vec<Item>,
     label: u32,
     offset: i32,

@@ -69,7 +69,7 @@ fn emit_block(out: &mut Vec<Item>, site: &Site<'_>, block: u32) -> Result<(), No
 }
 
 /// All blocks, in order.
-pub fn emit_blocks(out: &mut Vec<Item>, site: &Site<'_>) -> Result<(), NoMemory>
+pub(crate) fn emit_blocks(out: &mut Vec<Item>, site: &Site<'_>) -> Result<(), NoMemory>
     requires room { HasRoom (flow_of site.now) }
     requires points { length (places_of site.now).before ≡ length (flow_of site.now).ops }
     ensures { OnOk result (out.new.items ≡ out.old.items

@@ -113,7 +113,7 @@ fn moves_on(edge: &Edge<'_>) -> ArrayVec<Move, 16>
 }
 
 /// The instructions that bring each variable from its place after the point to its place before the next one.
-pub fn insns_on(edge: &Edge<'_>) -> ArrayVec<Insn, 48>
+pub(crate) fn insns_on(edge: &Edge<'_>) -> ArrayVec<Insn, 48>
     requires { IsEdge edge.now }
     ensures { AreBetween edge.now.graph.now edge.now.map.now edge.now.point edge.now.next result.items }
 {

@@ -42,7 +42,7 @@ fn exit_of(op: &Op) -> Exit
 }
 
 /// The first point of a block, if there is one.
-pub fn first_point(graph: &Graph, block: u32) -> Option<u32>
+pub(crate) fn first_point(graph: &Graph, block: u32) -> Option<u32>
     ensures { result ≡ slice_get (points_of graph.now block) 0 }
 {
     if block < graph.blocks() {
@@ -53,7 +53,7 @@ pub fn first_point(graph: &Graph, block: u32) -> Option<u32>
 }
 
 /// The points that follow a point: two at most.
-pub fn next_points(graph: &Graph, point: u32) -> (Option<u32>, Option<u32>)
+pub(crate) fn next_points(graph: &Graph, point: u32) -> (Option<u32>, Option<u32>)
     requires { IsPlaced graph.now point }
     ensures { AreNext graph.now point result }
 {

@@ -30,7 +30,7 @@ fn emit_header(out: &mut Vec<Item>, offset: i32, count: u32) -> Result<(), NoMem
 }
 
 /// The number of each array's elements into the four bytes before them.
-pub fn emit_headers(out: &mut Vec<Item>, site: &Site<'_>) -> Result<(), NoMemory>
+pub(crate) fn emit_headers(out: &mut Vec<Item>, site: &Site<'_>) -> Result<(), NoMemory>
     requires inside { AreArraysIn (flow_of site.now).arrays (placement_of site.now).frame
         (placement_of site.now).arrays }
     requires small { (placement_of site.now).frame ≤ 16384 }

@@ -20,7 +20,12 @@ use ia32_insn::{AluOp, Insn, Item, Reg32, ShiftOp};
 use pcc_base::NoMemory;
 
 /// The items of the op of a point.
-pub fn emit_op(out: &mut Vec<Item>, site: &Site<'_>, point: u32, op: &Op) -> Result<(), NoMemory>
+pub(crate) fn emit_op(
+    out: &mut Vec<Item>,
+    site: &Site<'_>,
+    point: u32,
+    op: &Op,
+) -> Result<(), NoMemory>
     requires point { HasPoint site.now point }
     requires few_words { words_of op.now < 2 ^ 29 }
     requires few_labels { loop_label (flow_of site.now) point < 2 ^ 32 }

@@ -61,7 +61,7 @@ fn register_of(spot: Spot) -> Option<Location>
 }
 
 /// Where that place is: there are four areas, and slots are below EBP.
-pub fn location_of(place: Place) -> Option<Location>
+pub(crate) fn location_of(place: Place) -> Option<Location>
     ensures { option_map place_of result ≡ standing_of place }
 {
     match place {
@@ -77,7 +77,7 @@ pub fn location_of(place: Place) -> Option<Location>
 }
 
 /// Where a place is, if there is one.
-pub fn location_if_any(place: Option<Place>) -> Option<Location>
+pub(crate) fn location_if_any(place: Option<Place>) -> Option<Location>
     ensures { option_map place_of result ≡ standing_if_any place }
 {
     match place {
@@ -87,7 +87,7 @@ pub fn location_if_any(place: Option<Place>) -> Option<Location>
 }
 
 /// Where a place is, or EBP where it is nowhere.
-pub fn location_or_ebp(place: Option<Place>) -> Location
+pub(crate) fn location_or_ebp(place: Option<Place>) -> Location
     ensures { place_of result ≡ unwrap_or (standing_if_any place) (InSlot 0) }
 {
     match location_if_any(place) {

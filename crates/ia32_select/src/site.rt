@@ -43,7 +43,7 @@ pub fn after(site: &Site<'_>, point: u32, variable: &u32) -> Location
 }
 
 /// Where a variable stands after a point, if there is one.
-pub fn any_after(site: &Site<'_>, point: u32, variable: &Option<u32>) -> Option<Location>
+pub(crate) fn any_after(site: &Site<'_>, point: u32, variable: &Option<u32>) -> Option<Location>
     requires { HasPoint site.now point }
     ensures { option_map place_of result ≡ option_map (after_at site.now point) variable.now }
 {
@@ -54,7 +54,11 @@ pub fn any_after(site: &Site<'_>, point: u32, variable: &Option<u32>) -> Option<
 }
 
 /// Where each of these variables stands before a point.
-pub fn all_before(site: &Site<'_>, point: u32, variables: &[u32]) -> Result<Vec<Location>, NoMemory>
+pub(crate) fn all_before(
+    site: &Site<'_>,
+    point: u32,
+    variables: &[u32],
+) -> Result<Vec<Location>, NoMemory>
     requires { HasPoint site.now point }
     ensures { IfOk result (λ locations. map place_of locations.items
         ≡ map (before_at site.now point) variables.now) }

@@ -81,7 +81,7 @@ fn fill_block(
 }
 
 /// The instructions that move variables, from each point to those that follow it.
-pub fn table_of(alloc: Global, graph: &Graph, map: &PointMap) -> Result<MoveTable, NoMemory>
+pub(crate) fn table_of(alloc: Global, graph: &Graph, map: &PointMap) -> Result<MoveTable, NoMemory>
     requires { CanSelect graph.now map.now }
     ensures { IfOk result (λ table. AllMove graph.now map.now (between_in table)) }
 {

@@ -49,7 +49,7 @@ pub fn numbers_of(rt: &impl Abort, alloc: Global, text: &str) -> Vec<Option<u32>
 }
 
 /// What was made is printed by `{:?}` as the text says, up to its semicolon.
-pub fn expect_printed<T: Debug>(rt: &impl Abort, alloc: Global, made: &T, text: &str) {
+pub(crate) fn expect_printed<T: Debug>(rt: &impl Abort, alloc: Global, made: &T, text: &str) {
     let wanted = text.split(" ; ").next();
     let printed = format!(in alloc; "{made:?}").expect(rt, "memory for a text");
     expect(rt, &Some(printed.as_str()), &wanted, text);

@@ -20,7 +20,7 @@ pub struct Ends {
 }
 
 /// Makes `next` stand right after a node, or first in its list where there is no node.
-pub fn set_next(links: &mut [Link], ends: &mut Ends, node: Option<u32>, next: Option<u32>)
+pub(crate) fn set_next(links: &mut [Link], ends: &mut Ends, node: Option<u32>, next: Option<u32>)
     requires { IsOneOf links.old node }
     ensures links { links.new ≡ with_next links.old node next }
     ensures ends { ends.new ≡ with_first ends.old node next }
@@ -32,7 +32,12 @@ pub fn set_next(links: &mut [Link], ends: &mut Ends, node: Option<u32>, next: Op
 }
 
 /// Makes `previous` stand right before a node, or last in its list where there is no node.
-pub fn set_previous(links: &mut [Link], ends: &mut Ends, node: Option<u32>, previous: Option<u32>)
+pub(crate) fn set_previous(
+    links: &mut [Link],
+    ends: &mut Ends,
+    node: Option<u32>,
+    previous: Option<u32>,
+)
     requires { IsOneOf links.old node }
     ensures links { links.new ≡ with_previous links.old node previous }
     ensures ends { ends.new ≡ with_last ends.old node previous }
@@ -59,7 +64,7 @@ pub fn insert(links: &mut [Link], ends: &mut Ends, node: u32, link: Link)
 }
 
 /// Takes a node that has this link out of its place, so that its neighbours stand next to one another.
-pub fn take_out(links: &mut [Link], ends: &mut Ends, link: Link)
+pub(crate) fn take_out(links: &mut [Link], ends: &mut Ends, link: Link)
     requires previous { IsOneOf links.old link.previous }
     requires next { IsOneOf links.old link.next }
     requires some { 0 < ends.old.count }

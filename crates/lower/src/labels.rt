@@ -53,7 +53,7 @@ pub struct Starts {
 }
 
 /// The labelled statements of so many have blocks in their order, from one on.
-pub fn starts_of(
+pub(crate) fn starts_of(
     alloc: Global,
     first: u32,
     labels: &[Label],
@@ -121,7 +121,7 @@ pub fn cases_of(
 }
 
 /// Where control goes that comes to no case: the `default`, or behind the switch.
-pub fn otherwise_of(
+pub(crate) fn otherwise_of(
     exit: u32,
     first: u32,
     starts: &[Option<u32>],
@@ -142,7 +142,7 @@ pub fn otherwise_of(
 }
 
 /// The start of the block that the statement at a place starts, if it has one.
-pub fn start_labelled(
+pub(crate) fn start_labelled(
     lines: &mut Lines,
     starts: &[Option<u32>],
     place: usize,

@@ -25,10 +25,8 @@ mod walk;
 pub use functions::function;
 pub use graphs::Graphs;
 pub use items::{first_part, item};
-pub use labels::{Starts, cases_of, otherwise_of, start_labelled, starts_of};
+pub use labels::{Starts, cases_of};
 pub use lowered::graph;
-pub use parts::{
-    close_for, evaluated, go, is_nothing, open_for, open_if, open_while, return_value, start_second,
-};
+pub use parts::{evaluated, go, return_value};
 pub use program::lower;
 pub use walk::{sequence, statement};

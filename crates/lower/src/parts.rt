@@ -35,7 +35,7 @@ fn are_none(body: &[Statement]) -> bool
 }
 
 /// Whether a statement is a block without statements.
-pub fn is_nothing(s: &Statement) -> bool
+pub(crate) fn is_nothing(s: &Statement) -> bool
     ensures { (c : Context) → result ≡ (run_of c (statement_of s.now)).nothing }
 {
     match s {
@@ -100,7 +100,7 @@ pub fn return_value(
 
 /// An `if` up to the start of its first way (C99 6.8.4.1): the block behind the statement. `second` is that of the
 /// second way, if something is on it.
-pub fn open_if(
+pub(crate) fn open_if(
     lines: &mut Lines,
     site: &Site<'_>,
     n: u32,
@@ -125,7 +125,7 @@ pub fn open_if(
 }
 
 /// The start of the second way of an `if`, which was named ahead.
-pub fn start_second(
+pub(crate) fn start_second(
     lines: &mut Lines,
     ahead: &mut Ahead,
     place: usize,
@@ -169,7 +169,7 @@ fn test_if_any(
 }
 
 /// A `while` up to its body.
-pub fn open_while(
+pub(crate) fn open_while(
     lines: &mut Lines,
     site: &Site<'_>,
     n: u32,
@@ -190,7 +190,7 @@ pub fn open_while(
 }
 
 /// A `for` up to its body (C99 6.8.5.3).
-pub fn open_for(
+pub(crate) fn open_for(
     lines: &mut Lines,
     site: &Site<'_>,
     n: u32,
@@ -217,7 +217,7 @@ pub fn open_for(
 }
 
 /// What comes after the body of a `for`, which was named ahead, if anything does.
-pub fn close_for(
+pub(crate) fn close_for(
     lines: &mut Lines,
     ahead: &mut Ahead,
     site: &Site<'_>,

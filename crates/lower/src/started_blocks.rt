@@ -8,7 +8,7 @@ ghost use Rattle.lower_expressions.specs.Views.{after_of};
 use lower_expressions::After;
 
 /// The block that the statement at a place starts, if it has one.
-pub fn block_at(starts: &[Option<u32>], place: usize) -> Option<u32>
+pub(crate) fn block_at(starts: &[Option<u32>], place: usize) -> Option<u32>
     ensures { result ≡ starts_at starts.now place }
 {
     if place < starts.len() {
@@ -18,7 +18,12 @@ pub fn block_at(starts: &[Option<u32>], place: usize) -> Option<u32>
 }
 
 /// Where control goes before the statement at a place, which is there or isn't.
-pub fn next_after(starts: &[Option<u32>], place: usize, statements: usize, after: After) -> After
+pub(crate) fn next_after(
+    starts: &[Option<u32>],
+    place: usize,
+    statements: usize,
+    after: After,
+) -> After
     ensures inside { place < statements → after_of result ≡ towards (starts_at starts.now place) }
     ensures last { statements ≤ place → after_of result ≡ after_of after }
 {

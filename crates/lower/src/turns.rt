@@ -23,7 +23,7 @@ pub struct Ends {
 }
 
 /// The start of a loop, where its turn is (C99 6.8.5).
-pub fn start_loop(lines: &mut Lines, after: After) -> Result<Ends, NoMemory>
+pub(crate) fn start_loop(lines: &mut Lines, after: After) -> Result<Ends, NoMemory>
     ensures exit { IfOk result (λ ends. ends.exit ≡ exit_of lines.old.next (after_of after)) }
     ensures start { IfOk result (λ ends. ends.start ≡ lines.old.next + exit_blocks (after_of after)) }
     ensures adds { IfOk result (λ _. Adds lines.old lines.new (exit_blocks (after_of after) + 1)
@@ -48,7 +48,7 @@ pub fn again(step: &Option<Box<Expression>>, start: u32, named: u32) -> u32
 }
 
 /// A `do` up to its body (C99 6.8.5.2): its start, behind which is the block of its test.
-pub fn open_do(lines: &mut Lines, n: u32, after: After) -> Result<Ends, NoMemory>
+pub(crate) fn open_do(lines: &mut Lines, n: u32, after: After) -> Result<Ends, NoMemory>
     ensures exit { IfOk result (λ ends. ends.exit ≡ exit_of lines.old.next (after_of after)) }
     ensures start { IfOk result (λ ends. ends.start ≡ lines.old.next + exit_blocks (after_of after)) }
     ensures adds { IfOk result (λ _. Adds lines.old lines.new (exit_blocks (after_of after) + 2)
@@ -61,7 +61,7 @@ pub fn open_do(lines: &mut Lines, n: u32, after: After) -> Result<Ends, NoMemory
 }
 
 /// The test of a `do`, behind its body.
-pub fn close_do(
+pub(crate) fn close_do(
     lines: &mut Lines,
     site: &Site<'_>,
     e: &Expression,

@@ -34,8 +34,7 @@ pub use heights::{height, statements_height};
 pub use line::Line;
 pub use lines::{Lines, plus};
 pub use moves::{
-    copied, delivered, moved, null_pointer, number_test, pointer_test, reading, target, test_value,
-    tested,
+    copied, delivered, moved, null_pointer, number_test, pointer_test, reading, target, tested,
 };
 pub use objects::{bits_of, object, text_count};
 pub use operators::{applied, comparison_of, computing, end_truth, on_numbers, tested_number};

@@ -81,7 +81,7 @@ pub fn pointer_test(
 }
 
 /// Whether a value of a type is true.
-pub fn test_value(
+pub(crate) fn test_value(
     lines: &mut Lines,
     site: &Site<'_>,
     level: u32,

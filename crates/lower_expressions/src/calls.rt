@@ -28,7 +28,7 @@ fn type_in_list(locals: &[Local], place: usize) -> Option<ValueType>
 }
 
 /// The type of the parameter at a place, of a function of the program by its number.
-pub fn parameter_type(site: &Site<'_>, f: u32, place: usize) -> Option<ValueType>
+pub(crate) fn parameter_type(site: &Site<'_>, f: u32, place: usize) -> Option<ValueType>
     ensures { result ≡ parameter_type (parameters_of (slice_get (context_of site.now).program.functions f)) place }
 {
     match site.program.functions.get(f as usize) {
@@ -78,7 +78,7 @@ fn taken_tested(
 
 /// The call behind its arguments; its result is taken where it is wanted and there is one. No function of a typed
 /// program gives a pointer, and none is tested.
-pub fn call_made(
+pub(crate) fn call_made(
     lines: &mut Lines,
     site: &Site<'_>,
     level: u32,

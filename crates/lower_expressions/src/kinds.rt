@@ -14,7 +14,7 @@ use c_tree::{Expression, IntegerType, Place, ValueType};
 use lower_builder::{Site, Spot};
 
 /// The type of a static object that is no array: a number's.
-pub fn number_type(of: ValueType) -> IntegerType
+pub(crate) fn number_type(of: ValueType) -> IntegerType
     ensures { result ≡ number_type of }
 {
     match of {

@@ -130,7 +130,7 @@ pub fn object_type(of: ValueType) -> IntegerType
 }
 
 /// The variables of a local that an op may use where it stands.
-pub fn local_stands(site: &Site<'_>, of: ValueType, local: u32) -> Option<Spot>
+pub(crate) fn local_stands(site: &Site<'_>, of: ValueType, local: u32) -> Option<Spot>
     ensures { option_map spot_of result ≡ (local_part (context_of site.now) of local).stands }
 {
     match of {
@@ -153,7 +153,7 @@ pub fn if_stays(stays: bool, spot: Option<Spot>) -> Option<Spot>
 }
 
 /// A local as an operand.
-pub fn local_operand(
+pub(crate) fn local_operand(
     lines: &mut Lines,
     site: &Site<'_>,
     level: u32,

@@ -32,7 +32,6 @@ pub use ahead::Ahead;
 pub use ends::{go_onward, leave, start_dead, start_exit, take_dead, take_exit};
 pub use items::{clear_array, copy_text, reads_none, store_element, zero};
 pub use leaves::object_type;
-pub use names::{step_local, step_object};
-pub use operands::{converted, element_sum, loaded, renewed};
+pub use operands::{converted, element_sum, loaded};
 pub use parameters::take_parameters;
 pub use walk::{assign_local, emit, returned, stood, typed};

@@ -86,7 +86,7 @@ pub fn set_local(
 }
 
 /// A static object gets what an operator gives of two values.
-pub fn set_object(
+pub(crate) fn set_object(
     lines: &mut Lines,
     site: &Site<'_>,
     level: u32,
@@ -218,7 +218,7 @@ fn local_then(
 }
 
 /// A step of a local.
-pub fn step_local(
+pub(crate) fn step_local(
     lines: &mut Lines,
     site: &Site<'_>,
     level: u32,
@@ -290,7 +290,7 @@ fn object_then(
 }
 
 /// A step of a static object.
-pub fn step_object(
+pub(crate) fn step_object(
     lines: &mut Lines,
     site: &Site<'_>,
     level: u32,

@@ -39,7 +39,7 @@ pub enum NumberOp {
 }
 
 /// An op on a number, for what is wanted of it.
-pub fn number_made(
+pub(crate) fn number_made(
     lines: &mut Lines,
     site: &Site<'_>,
     level: u32,
@@ -61,7 +61,7 @@ pub fn number_made(
 }
 
 /// A number in a narrower type, for what is wanted of it.
-pub fn narrow_made(
+pub(crate) fn narrow_made(
     lines: &mut Lines,
     site: &Site<'_>,
     level: u32,
@@ -142,7 +142,7 @@ pub fn getchar(
 }
 
 /// The program ends, and behind it stands a block that nothing leads to.
-pub fn exit_with(lines: &mut Lines, block: u32, x: u32) -> Result<(), NoMemory>
+pub(crate) fn exit_with(lines: &mut Lines, block: u32, x: u32) -> Result<(), NoMemory>
     ensures { OnOk result (Adds lines.old lines.new 0 (Emit (op.Exit x) ∷ Start block ∷ [])) }
 {
     lines.emit(Op::Exit(x))?;
@@ -170,7 +170,7 @@ pub fn stored(
 }
 
 /// A number goes to a local of type `char`.
-pub fn byte_set(
+pub(crate) fn byte_set(
     lines: &mut Lines,
     site: &Site<'_>,
     level: u32,
@@ -244,7 +244,7 @@ pub fn load_old(
 }
 
 /// The value that an element then gets.
-pub fn renewed(
+pub(crate) fn renewed(
     lines: &mut Lines,
     site: &Site<'_>,
     level: u32,
@@ -268,7 +268,7 @@ pub fn renewed(
 }
 
 /// An element gets what an operator gives of its value and a number.
-pub fn renew(
+pub(crate) fn renew(
     lines: &mut Lines,
     site: &Site<'_>,
     level: u32,

@@ -26,7 +26,7 @@ use lower_builder::{Lines, Site, Spot, Wanted, delivered, object, plus};
 use pcc_base::NoMemory;
 
 /// The value of a place that was found.
-pub fn read_found(
+pub(crate) fn read_found(
     lines: &mut Lines,
     site: &Site<'_>,
     level: u32,
@@ -156,7 +156,7 @@ fn step_value(
 }
 
 /// An element is stepped.
-pub fn step_element(
+pub(crate) fn step_element(
     lines: &mut Lines,
     site: &Site<'_>,
     level: u32,
@@ -175,7 +175,7 @@ pub fn step_element(
 }
 
 /// A place that was found is stepped (C99 6.5.2.4 and 6.5.3.1).
-pub fn step_found(
+pub(crate) fn step_found(
     lines: &mut Lines,
     site: &Site<'_>,
     level: u32,

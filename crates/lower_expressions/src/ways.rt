@@ -44,7 +44,7 @@ fn truth_ways(lines: &mut Lines) -> Result<Ways, NoMemory>
 }
 
 /// The blocks of a condition with two operands are taken.
-pub fn open_ways(lines: &mut Lines, wanted: Wanted) -> Result<Ways, NoMemory>
+pub(crate) fn open_ways(lines: &mut Lines, wanted: Wanted) -> Result<Ways, NoMemory>
     ensures lines { IfOk result (λ _. lines.new.lines ≡ lines.old.lines) }
     ensures next { IfOk result (λ _. lines.new.next ≡ lines.old.next + way_blocks (wanted_of wanted)) }
     ensures ways { IfOk result (λ ways. ways_of ways ≡ ways_at lines.old.next (wanted_of wanted)) }
@@ -84,7 +84,7 @@ fn go_on(lines: &mut Lines, block: u32) -> Result<(), NoMemory>
 }
 
 /// What stands behind both operands.
-pub fn end_ways(
+pub(crate) fn end_ways(
     lines: &mut Lines,
     site: &Site<'_>,
     level: u32,
@@ -125,7 +125,7 @@ pub fn join(lines: &mut Lines, wanted: Wanted, behind: u32) -> Result<(), NoMemo
 }
 
 /// Behind both ways of `?:`.
-pub fn start_joined(lines: &mut Lines, wanted: Wanted, behind: u32) -> Result<(), NoMemory>
+pub(crate) fn start_joined(lines: &mut Lines, wanted: Wanted, behind: u32) -> Result<(), NoMemory>
     ensures { OnOk result (Adds lines.old lines.new 0 (joins behind (wanted_of wanted))) }
 {
     match wanted {

@@ -19,8 +19,6 @@ mod whole;
 mod words;
 
 pub use line::Line;
-pub use lines::read_line;
-pub use reading::read_front;
 pub use refusal::MapRefusal;
 pub use whole::read_map;
 pub use words::words_of;

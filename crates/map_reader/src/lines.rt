@@ -304,7 +304,7 @@ fn by(alloc: Global, word: &[u8], words: &[&[u8]]) -> Result<Option<Line>, NoMem
 /// The line that words are, if they are one. Some words are read too that no map has, as a number with a zero in front.
 /// The only refusal is want of memory.
 #[tactic(auto, unfolding(map_text::specs::Reading::line_in))]
-pub fn read_line(alloc: Global, words: &[&[u8]]) -> Result<Option<Line>, NoMemory>
+pub(crate) fn read_line(alloc: Global, words: &[&[u8]]) -> Result<Option<Line>, NoMemory>
     ensures { IfOk result (λ line. option_map line_of line ≡ line_in (texts words.now)) }
 {
     match next(words) {

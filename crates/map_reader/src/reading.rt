@@ -47,7 +47,7 @@ fn read_next<'a>(
 /// The map with whose text a text begins, if it begins with one. Some texts are read too that are of no map, so who
 /// asks for a map judges its rules, prints it, and compares. The only refusal is want of memory.
 #[tactic(auto, using(crate::proofs::Fronts::line_gone, crate::proofs::Fronts::no_line, crate::proofs::Fronts::last_line, crate::proofs::Fronts::none_ended))]
-pub fn read_front(alloc: Global, text: &[u8]) -> Result<Option<MapFile>, NoMemory>
+pub(crate) fn read_front(alloc: Global, text: &[u8]) -> Result<Option<MapFile>, NoMemory>
     ensures { IfOk result (λ map. option_map map_of map ≡ option_map (λ read. read.0) (reading.map_in text.now)) }
 {
     let mut map = MapFile {

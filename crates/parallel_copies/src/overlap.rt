@@ -31,7 +31,7 @@ pub fn distance_of(offset: i32) -> u32
 }
 
 /// Whether two slots of four bytes each have a byte in common.
-pub fn slots_overlap(first: i32, second: i32) -> bool
+pub(crate) fn slots_overlap(first: i32, second: i32) -> bool
     ensures { result ≡ slots_overlap (distance first) (distance second) }
 {
     let (first, second) = (distance_of(first), distance_of(second));
@@ -67,7 +67,7 @@ pub fn is_same(first: Location, second: Location) -> bool
 }
 
 /// Whether a place is the word of a register for variables.
-pub fn is_general(place: Location) -> bool
+pub(crate) fn is_general(place: Location) -> bool
     ensures { result ≡ is_general (place_of place) }
 {
     matches!(

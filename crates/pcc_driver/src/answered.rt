@@ -10,7 +10,7 @@ use crate::report::Report;
 use pcc_outside::{Sink, WriteRefusal};
 
 /// Puts an answer on the output.
-pub fn put_answer<O: Sink>(answer: &[u8], out: &mut O) -> Report
+pub(crate) fn put_answer<O: Sink>(answer: &[u8], out: &mut O) -> Report
     ensures own { HasNoTokens result }
     ensures files { (counts : StoreCounts) → FilesCause result counts counts }
     ensures streams { (input : ℕ) → StreamsCause result input input (O.counts out.old) (O.counts out.new) }

@@ -26,7 +26,7 @@ fn write_report(refusal: WriteRefusal, file: Named) -> Report
 }
 
 /// Writes NAME.map, and then NAME.
-pub fn write_products<F: FileStore>(
+pub(crate) fn write_products<F: FileStore>(
     map_name: &str,
     name: &str,
     products: &Products,

@@ -12,7 +12,7 @@ use pcc_outside::{FileStore, Sink, Source};
 use std::alloc::Global;
 
 /// The report of an evaluation of so many turns.
-pub fn evaluation_report(turns: u64, end: EvalEnd) -> Report
+pub(crate) fn evaluation_report(turns: u64, end: EvalEnd) -> Report
     ensures { result ≡ report_of_evaluation turns end }
 {
     match end {

@@ -30,7 +30,7 @@ fn put_line<E: Sink>(line: &[u8], status: u8, err: &mut E) -> u8
 
 /// Puts the line of want of memory on standard error, and answers the status, whatever the command, in place of any
 /// report that has a line.
-pub fn finish_wanting<E: Sink>(err: &mut E) -> u8
+pub(crate) fn finish_wanting<E: Sink>(err: &mut E) -> u8
     ensures ends { (command : asked.Command) (report : Report) → is_silent report ≡ false
         → Ends command report (output_of E.Sink err.old) (output_of E.Sink err.new) result }
     ensures telling { E.tells err.old → E.tells err.new }

@@ -30,7 +30,6 @@ mod top;
 mod typed_sources;
 
 pub use evaluated::eval;
-pub use reading::{Unread, read_sources};
+pub use reading::Unread;
 pub use stops::images_never_stop;
 pub use top::pcc;
-pub use typed_sources::unread_report;

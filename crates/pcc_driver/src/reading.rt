@@ -27,7 +27,7 @@ use pcc_outside::{FileStore, ReadRefusal};
 use std::alloc::Global;
 
 /// The most bytes of one file that is read.
-pub const FILE_LIMIT: usize = 1_342_177_280;
+pub(crate) const FILE_LIMIT: usize = 1_342_177_280;
 
 /// The first source that isn't read.
 #[derive(Clone, Copy)]
@@ -68,7 +68,7 @@ fn push_text(texts: &mut Vec<Vec<u8>>, text: Vec<u8>) -> Result<(), NoMemory>
 }
 
 /// Reads the sources in their order, up to the first that isn't read.
-pub fn read_sources<F: FileStore>(
+pub(crate) fn read_sources<F: FileStore>(
     alloc: Global,
     sources: &[&str],
     files: &mut F,

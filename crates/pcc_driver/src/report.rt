@@ -92,14 +92,14 @@ impl Report {
     }
 
     /// Whether no line is put for the report.
-    pub fn is_silent(&self) -> bool
+    pub(crate) fn is_silent(&self) -> bool
         ensures { result ≡ is_silent self.now }
     {
         matches!(self, Report::Compiled | Report::Answered)
     }
 
     /// Whether the words mean no command.
-    pub fn is_usage(&self) -> bool
+    pub(crate) fn is_usage(&self) -> bool
         ensures { result ≡ is_usage self.now }
     {
         matches!(self, Report::Usage)

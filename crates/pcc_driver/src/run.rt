@@ -33,7 +33,7 @@ fn loaded_of(alloc: Global, image: &[u8]) -> Result<Loaded, Report>
 }
 
 /// The machine that the bytes of an image load. They are let go before the machine takes its memory.
-pub fn machine_of(alloc: Global, image: Vec<u8>) -> Result<Machine, Report>
+pub(crate) fn machine_of(alloc: Global, image: Vec<u8>) -> Result<Machine, Report>
     ensures { MatchResult result
         (λ machine. (segments : Segments) × Loads image.items segments × (machine ≡ first_state segments []))
         (GivesNoMachine image.items) }
@@ -47,7 +47,7 @@ pub fn machine_of(alloc: Global, image: Vec<u8>) -> Result<Machine, Report>
 }
 
 /// The report of a run of the machine for so many steps.
-pub fn end_report(steps: u64, end: MachineEnd) -> Report
+pub(crate) fn end_report(steps: u64, end: MachineEnd) -> Report
     ensures { result ≡ report_of_end steps end }
 {
     match end {

@@ -34,10 +34,10 @@ use pcc_program::{compile_program, programs_are_ready};
 use std::alloc::Global;
 
 /// The most turns of the evaluation.
-pub const TURN_LIMIT: u64 = 1_000_000;
+pub(crate) const TURN_LIMIT: u64 = 1_000_000;
 
 /// The most steps of the image.
-pub const STEP_LIMIT: u64 = 1_000_000_000;
+pub(crate) const STEP_LIMIT: u64 = 1_000_000_000;
 
 /// The typed program of a text, or why it has none.
 fn program_of_text(alloc: Global, text: Vec<u8>) -> Result<Program, Report>

@@ -31,7 +31,7 @@ fn push_end(line: &mut Vec<u8>, written: &[u8], status: u8) -> Result<(), NoMemo
 }
 
 /// The line of an evaluation that ended with this status. The only refusal is want of memory.
-pub fn eval_line(alloc: Global, written: &[u8], status: u8) -> Result<Vec<u8>, NoMemory>
+pub(crate) fn eval_line(alloc: Global, written: &[u8], status: u8) -> Result<Vec<u8>, NoMemory>
     ensures { IfOk result (λ line. line.items ≡ eval_line written.now status) }
 {
     let mut line = Vec::new(alloc);

@@ -52,7 +52,7 @@ fn count_steps<I: Source, O: Sink>(
 
 /// The line of the run of an image over no input, for so many steps at most, or why there is none. What it reads and
 /// writes stands in memory, which refuses nothing but where it is wanting.
-pub fn line_of_run(alloc: Global, image: Vec<u8>, most: u64) -> Result<Vec<u8>, Report>
+pub(crate) fn line_of_run(alloc: Global, image: Vec<u8>, most: u64) -> Result<Vec<u8>, Report>
     ensures { MatchResult result (λ line. IsRunLine most image.items line.items) (GivesNoRun most image.items) }
 {
     let mut machine = machine_of(alloc, image)?;

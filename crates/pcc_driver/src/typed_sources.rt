@@ -23,7 +23,7 @@ use pcc_outside::{FileStore, ReadRefusal};
 use std::alloc::Global;
 
 /// The report of a refused read.
-pub fn read_report(refusal: ReadRefusal, file: Named) -> Report
+pub(crate) fn read_report(refusal: ReadRefusal, file: Named) -> Report
     ensures { result ≡ report_of_read refusal file }
 {
     match refusal {
@@ -35,14 +35,14 @@ pub fn read_report(refusal: ReadRefusal, file: Named) -> Report
 }
 
 /// The report of the first source that isn't read.
-pub fn unread_report(unread: Unread) -> Report
+pub(crate) fn unread_report(unread: Unread) -> Report
     ensures { result ≡ report_of_unread unread }
 {
     read_report(unread.why, Named::Source(unread.position))
 }
 
 /// The report of texts that have no typed program within the limits.
-pub fn refused_report(refused: Refused) -> Report
+pub(crate) fn refused_report(refused: Refused) -> Report
     ensures { result ≡ report_of_refused refused }
 {
     match refused {
@@ -55,7 +55,7 @@ pub fn refused_report(refused: Refused) -> Report
 }
 
 /// Reads the sources in their order, and types them. No file is changed.
-pub fn program_of_sources<F: FileStore>(
+pub(crate) fn program_of_sources<F: FileStore>(
     alloc: Global,
     sources: &[&str],
     files: &mut F,

@@ -7,7 +7,7 @@ use flow_graph::{first_is_state, step_keeps_state};
 
 /// Where the code of a program's graphs is right and the map is that of the code, the image of the code's text does
 /// what the program does, as the map shows it, and the map is true at every point.
-pub fn compiled_does_as()
+pub(crate) fn compiled_does_as()
     ensures { CompiledDoesAs }
 {
     first_is_state();

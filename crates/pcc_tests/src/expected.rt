@@ -11,7 +11,13 @@ pub fn expect<T: PartialEq + Debug>(rt: &impl Abort, found: &T, wanted: &T, of: 
 }
 
 /// The Debug form of what was found is this text.
-pub fn expect_shown<T: Debug>(rt: &impl Abort, alloc: Global, found: &T, wanted: &str, of: &str) {
+pub(crate) fn expect_shown<T: Debug>(
+    rt: &impl Abort,
+    alloc: Global,
+    found: &T,
+    wanted: &str,
+    of: &str,
+) {
     let shown = format!(in alloc; "{found:?}").expect(rt, of);
     expect(rt, &shown.as_str(), &wanted, of);
 }
@@ -28,7 +34,7 @@ fn shown_refusal(alloc: Global, refusal: Option<Refusal>) -> Result<String, Allo
 }
 
 /// Why a text is refused, if it is, is this as a text.
-pub fn expect_refusal(
+pub(crate) fn expect_refusal(
     rt: &impl Abort,
     alloc: Global,
     found: Option<Refusal>,

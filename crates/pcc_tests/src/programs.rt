@@ -35,7 +35,7 @@ int main(void){int c; int n=0; while((c=getchar())!=-1) n+=c=='\\n'; return n;} 
 int main(void){return getchar()+getchar()*2;} <= A => 0 exit 63$";
 
 /// As many calls as may be active, one more, an end in a call, and a name that is hidden.
-pub const CALLS: &str = "\
+pub(crate) const CALLS: &str = "\
 5 rows
 int f(int n){if(n==0)return 0; return f(n-1);} int main(void){return f(4094);} => 0 exit 0$
 int f(int n){if(n==0)return 0; return f(n-1);} int main(void){return f(4095);} => 8 trap check$
@@ -44,7 +44,7 @@ int f(void){static int n=1; return n+=n;} int main(void){f(); f(); return f()*10
 int f(int f){return f;} int main(void){int x=1; {int x=2; return x+f(1);}} => 0 exit 3$";
 
 /// Elements through pointers, strings that are written, and an access past the end.
-pub const POINTERS: &str = "\
+pub(crate) const POINTERS: &str = "\
 5 rows
 int g[2]={3,4}; int main(void){int *p=g; *p++ += 5; return g[0]*10+*p;} => 0 exit 84$
 int main(void){int a[3]; int *p; putchar('o'); p=a+3; putchar('k'); a[3]=1; return 0;} => 8 trap check$ => ok
@@ -53,7 +53,7 @@ int main(void){char *s=\"abc\"; s[1]='X'; while(*s) putchar(*s++); return s[-1];
 int main(void){int *p; putchar('a'); p=0; return *p;} => 8 trap check$ => a";
 
 /// Arrays of a function that are zero again, negative indices, and pointers into two arrays.
-pub const ARRAYS: &str = "\
+pub(crate) const ARRAYS: &str = "\
 5 rows
 int f(int n){int a[3]; a[n]+=n; return a[0]*100+a[1]*10+a[2];} int main(void){return f(1)+f(2)+f(0);} => 0 exit 12$
 short g[3]={1,-2,3}; int sum(short *p,int n){int s=0; while(n-->0) s=s*2+*p++; return s;} int main(void){return \
@@ -63,7 +63,7 @@ int main(void){int a[2]; int b[2]; putchar('a'); return a<b;} => 8 trap check$ =
 int main(void){int a[4]; int *p=a+1; int *q=&a[3]; return (q-p)*10+(p<q)+(a+1==p);} => 0 exit 22$";
 
 /// Counts the lines, words and bytes of its input.
-pub const WORD_COUNTER: &str = "# 1 \"wc.c\"
+pub(crate) const WORD_COUNTER: &str = "# 1 \"wc.c\"
 int putchar(int c);
 int getchar(void);
 static int counts[3];

@@ -33,12 +33,12 @@ pub struct Answer {
 }
 
 /// A sink whose call with this number fails, and none where it is 0.
-pub fn sink_of(rt: &impl Abort, alloc: Global, failing_call: u64) -> MemSink {
+pub(crate) fn sink_of(rt: &impl Abort, alloc: Global, failing_call: u64) -> MemSink {
     MemSink::new(alloc, failing(rt, alloc, failing_call))
 }
 
 /// Runs a command over these files, this input and these sinks.
-pub fn run_with<F: FileStore>(
+pub(crate) fn run_with<F: FileStore>(
     rt: &impl Abort,
     alloc: Global,
     line: &str,
@@ -53,7 +53,7 @@ pub fn run_with<F: FileStore>(
 }
 
 /// Runs a command over these files and this input. Of standard error the call with this number fails.
-pub fn run_over<F: FileStore>(
+pub(crate) fn run_over<F: FileStore>(
     rt: &impl Abort,
     alloc: Global,
     line: &str,
@@ -85,12 +85,12 @@ pub fn put(rt: &impl Abort, files: &mut MemFiles, name: &str, bytes: &[u8]) {
 }
 
 /// Files in memory, of whose calls the one with this number fails.
-pub fn no_files(rt: &impl Abort, alloc: Global, failing_call: u64) -> MemFiles {
+pub(crate) fn no_files(rt: &impl Abort, alloc: Global, failing_call: u64) -> MemFiles {
     MemFiles::new(alloc, failing(rt, alloc, failing_call))
 }
 
 /// Files in memory with one source.
-pub fn files_with(rt: &impl Abort, alloc: Global, source: &str) -> MemFiles {
+pub(crate) fn files_with(rt: &impl Abort, alloc: Global, source: &str) -> MemFiles {
     let mut files = no_files(rt, alloc, 0);
     put(rt, &mut files, "a.c", source.as_bytes());
     files
@@ -103,7 +103,7 @@ pub fn input_of(rt: &impl Abort, alloc: Global, text: &str, failing_call: u64) -
 }
 
 /// A command is answered by these bytes on the output, this status and this line.
-pub fn expect_answer(
+pub(crate) fn expect_answer(
     rt: &impl Abort,
     answer: &Answer,
     out: &str,
@@ -118,7 +118,7 @@ pub fn expect_answer(
 
 /// A command tells what a row says: the status, the line on standard error if there is one, and what stands on the
 /// output if something does.
-pub fn expect_told(rt: &impl Abort, alloc: Global, answer: &Answer, told: &str, of: &str) {
+pub(crate) fn expect_told(rt: &impl Abort, alloc: Global, answer: &Answer, told: &str, of: &str) {
     let told = unfolded(alloc, told).expect(rt, of);
     let told = told.as_str();
     let (told, out) = told.split_once(" => ").unwrap_or((told, ""));
@@ -128,12 +128,12 @@ pub fn expect_told(rt: &impl Abort, alloc: Global, answer: &Answer, told: &str, 
 }
 
 /// The source of a program's row, and its input.
-pub fn source_and_input(program: &str) -> (&str, &str) {
+pub(crate) fn source_and_input(program: &str) -> (&str, &str) {
     program.split_once(" <= ").unwrap_or((program, ""))
 }
 
 /// A program with this input is compiled, and its image tells this.
-pub fn expect_run(rt: &impl Abort, alloc: Global, source: &str, input: &str, told: &str) {
+pub(crate) fn expect_run(rt: &impl Abort, alloc: Global, source: &str, input: &str, told: &str) {
     let mut files = files_with(rt, alloc, source);
     let compiled = run_line(rt, alloc, "compile -o a a.c", &mut files, 0);
     expect_answer(rt, &compiled, "", 0, "", source);
@@ -143,7 +143,7 @@ pub fn expect_run(rt: &impl Abort, alloc: Global, source: &str, input: &str, tol
 }
 
 /// The program of each row is compiled, and its image is run.
-pub fn expect_runs(rt: &impl Abort, alloc: Global, table: &str) {
+pub(crate) fn expect_runs(rt: &impl Abort, alloc: Global, table: &str) {
     for row in rows_of(rt, table) {
         let (program, told) = cells(rt, row);
         let program = unfolded(alloc, program).expect(rt, row);
@@ -153,14 +153,24 @@ pub fn expect_runs(rt: &impl Abort, alloc: Global, table: &str) {
 }
 
 /// The command of a row, over files with an empty input, tells what the row says.
-pub fn expect_command<F: FileStore>(rt: &impl Abort, alloc: Global, files: &mut F, row: &str) {
+pub(crate) fn expect_command<F: FileStore>(
+    rt: &impl Abort,
+    alloc: Global,
+    files: &mut F,
+    row: &str,
+) {
     let (words, told) = cells(rt, row);
     let answer = run_line(rt, alloc, words, files, 0);
     expect_told(rt, alloc, &answer, told, row);
 }
 
 /// The commands of a table, in their order.
-pub fn expect_commands<F: FileStore>(rt: &impl Abort, alloc: Global, files: &mut F, table: &str) {
+pub(crate) fn expect_commands<F: FileStore>(
+    rt: &impl Abort,
+    alloc: Global,
+    files: &mut F,
+    table: &str,
+) {
     for row in rows_of(rt, table) {
         expect_command(rt, alloc, files, row);
     }

@@ -20,7 +20,7 @@ pub fn cells<'a>(rt: &impl Abort, row: &'a str) -> (&'a str, &'a str) {
 }
 
 /// A row with an end of a line in place of each `$`.
-pub fn unfolded(alloc: Global, row: &str) -> Result<String, AllocError> {
+pub(crate) fn unfolded(alloc: Global, row: &str) -> Result<String, AllocError> {
     let mut out = String::new(alloc);
     for letter in row.chars() {
         out.push(if letter == '$' { '\n' } else { letter })?;

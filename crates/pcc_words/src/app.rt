@@ -212,7 +212,7 @@ fn with_command<'a>(
 }
 
 /// All commands.
-pub fn app<'a>(alloc: Global) -> Result<Command<'a>, AllocError>
+pub(crate) fn app<'a>(alloc: Global) -> Result<Command<'a>, AllocError>
     ensures { IfOk result (λ c. app_of c ≡ apps.app) }
 {
     let with_compile = with_command(top(alloc), compile(alloc));

@@ -53,7 +53,7 @@ use pcc_base::NoMemory;
 use std::alloc::{AllocError, Global};
 
 /// The most sources of one command.
-pub const FILE_COUNT_LIMIT: usize = 16;
+pub(crate) const FILE_COUNT_LIMIT: usize = 16;
 
 /// The source is NAME.map.
 fn is_map_of(source: &str, name: &str) -> bool

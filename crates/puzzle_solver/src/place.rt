@@ -9,7 +9,7 @@ use puzzle_board::{Board, Kind, Spot};
 use std::sync::ledger::Ledger;
 
 /// Places a piece of this kind and width where there is room for it.
-pub fn place_first<L: Ledger>(
+pub(crate) fn place_first<L: Ledger>(
     board: &mut Board<L>,
     kind: Kind,
     width: Width,

@@ -43,7 +43,7 @@ fn code_of<'a>(alloc: Global, graph: &'a Graph) -> Result<Code<'a>, NoMemory> {
 }
 
 /// The graphs of all functions, by their numbers.
-pub fn codes_of<'a>(alloc: Global, graphs: &'a [Graph]) -> Result<Vec<Code<'a>>, NoMemory> {
+pub(crate) fn codes_of<'a>(alloc: Global, graphs: &'a [Graph]) -> Result<Vec<Code<'a>>, NoMemory> {
     let mut codes = Vec::new(alloc);
     for graph in graphs {
         codes.push(code_of(alloc, graph)?)?;

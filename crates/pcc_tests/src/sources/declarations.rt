@@ -1,7 +1,7 @@
 //! Declarations, files, and their least faults.
 
 /// Each kind that no construct below has.
-pub const FIRST_ROWS: &str = "\
+pub(crate) const FIRST_ROWS: &str = "\
 5 rows
 @ => NoMain
 int main(void){int a[2]={1,2,@3};return 0;} => Initialiser
@@ -10,7 +10,7 @@ int f(int n); int main(void){return @f(20);} => NoBody
 int x=1; int x; static int y; int main(void){@extern int x; return 0;} => TypeRule";
 
 /// Specifiers (C99 6.7.1 and 6.7.2).
-pub const SPECIFIERS: &str = "\
+pub(crate) const SPECIFIERS: &str = "\
 14 rows
 @int int x; int main(void){return 0;} => TypeRule
 @static x; int main(void){return 0;} => TypeRule
@@ -28,7 +28,7 @@ int main(void){return (@static int)3;} => TypeRule
 int main(void){return (@int int)3;} => TypeRule";
 
 /// Objects and functions that can't be (C99 6.7.5).
-pub const OBJECTS: &str = "\
+pub(crate) const OBJECTS: &str = "\
 15 rows
 void @x; int main(void){return 0;} => TypeRule
 extern void @x; int main(void){return 0;} => TypeRule
@@ -47,7 +47,7 @@ int f(void)=@3; int main(void){return 0;} => TypeRule
 int f(void)=@{3}; int main(void){return 0;} => TypeRule";
 
 /// Parameters (C99 6.7.5.3).
-pub const PARAMETERS: &str = "\
+pub(crate) const PARAMETERS: &str = "\
 14 rows
 int f(@void, int x); int main(void){return 0;} => TypeRule
 int f(void @x); int main(void){return 0;} => TypeRule
@@ -65,7 +65,7 @@ int f(int a[@n]); int main(void){return 0;} => Undeclared
 int f(int a[@a]); int main(void){return 0;} => Undeclared";
 
 /// Declarators with several faults (C99 6.7.5 and 6.7.8p3).
-pub const DECLARATORS: &str = "\
+pub(crate) const DECLARATORS: &str = "\
 36 rows
 int f(void)=1+@x; int main(void){return 0;} => Undeclared
 int f(void)={1,@y,z}; int main(void){return 0;} => Undeclared
@@ -105,7 +105,7 @@ int a; int a(void @v); int main(void){return 0;} => TypeRule
 int putchar(void @v){return 0;} int main(void){return 0;} => TypeRule";
 
 /// Sizes of arrays (C99 6.7.5.2).
-pub const ARRAY_SIZES: &str = "\
+pub(crate) const ARRAY_SIZES: &str = "\
 9 rows
 int a@[0]; int main(void){return 0;} => ArraySize
 int a@[-1]; int main(void){return 0;} => ArraySize
@@ -118,7 +118,7 @@ int main(void){int n=3; int a@[n]; return 0;} => ArraySize
 int main(void){int n=3; int a@[\"x\"]; return 0;} => ArraySize";
 
 /// Names that are declared again (C99 6.2.1, 6.2.7 and 6.9).
-pub const REDECLARATIONS: &str = "\
+pub(crate) const REDECLARATIONS: &str = "\
 16 rows
 int a[3]; int @a[4]; int main(void){return 0;} => Redeclared
 int x=1; int @x=2; int main(void){return 0;} => Redeclared
@@ -138,7 +138,7 @@ int @putchar(int c){return 0;} int main(void){return 0;} => TypeRule
 int @putchar(void){return 0;} int main(void){return 0;} => Redeclared";
 
 /// Several files (C99 6.2.2 and 6.9), and what no file defines.
-pub const FILES: &str = "\
+pub(crate) const FILES: &str = "\
 10 rows
 int x=1; int main(void){return x;}$int @x=2; => Redeclared
 int x=1; int main(void){return x;}$extern char @x; => Redeclared
@@ -152,7 +152,7 @@ int main; @ => NoMain
 int f(void); int g(void){return @f();} => NoBody";
 
 /// Initialisers (C99 6.7.8).
-pub const INITIALISERS: &str = "\
+pub(crate) const INITIALISERS: &str = "\
 22 rows
 int x=@f(); int main(void){return 0;} => Undeclared
 int f(void){return 1;} int x=@f(); int main(void){return 0;} => Initialiser

@@ -1,7 +1,7 @@
 //! Expressions and their least faults.
 
 /// Operators (C99 6.5).
-pub const EXPRESSIONS: &str = "\
+pub(crate) const EXPRESSIONS: &str = "\
 40 rows
 void v(void){} int main(void){1@+v(); return 0;} => TypeRule
 void v(void){} int main(void){int *p; p@+v(); return 0;} => PointerUse
@@ -45,7 +45,7 @@ void v(void){} int main(void){int x; x@=v(); return 0;} => TypeRule
 void v(void){} int main(void){int x; x@+=v(); return 0;} => TypeRule";
 
 /// Calls (C99 6.5.2.2).
-pub const CALLS: &str = "\
+pub(crate) const CALLS: &str = "\
 16 rows
 int f(int a){return a;} int main(void){return @f();} => ArgumentCount
 int f(int a){return a;} int main(void){return @f(1,2);} => ArgumentCount

@@ -40,7 +40,7 @@ pub fn program_of_text(alloc: Global, before: &str, text: &str) -> Result<Progra
 }
 
 /// The graphs of a typed program.
-pub fn graphs_of_program(alloc: Global, program: &Program) -> Result<Graphs, NoMemory>
+pub(crate) fn graphs_of_program(alloc: Global, program: &Program) -> Result<Graphs, NoMemory>
     requires { (texts : List (List ℕ)) × HaveTypedProgram texts (program_of program.now) }
 {
     programs_are_ready();

@@ -58,7 +58,7 @@ pub struct Machine<'a> {
 }
 
 /// The ops of a block. Where there is no such block, there are none.
-pub fn ops_of<'a>(code: &'a Code<'a>, block: u32) -> &'a [&'a Op] {
+pub(crate) fn ops_of<'a>(code: &'a Code<'a>, block: u32) -> &'a [&'a Op] {
     match code.blocks.get(block as usize) {
         Some(ops) => ops.as_slice(),
         None => &[],
@@ -174,7 +174,7 @@ impl<'a> Machine<'a> {
         }
     }
 
-    pub fn set_number(&mut self, variable: u32, number: i32) {
+    pub(crate) fn set_number(&mut self, variable: u32, number: i32) {
         self.set(variable, Value::Number(number));
     }
 }

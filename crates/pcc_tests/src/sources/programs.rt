@@ -2,7 +2,7 @@
 //! program traps, or where C99 leaves a choice open that `docs/DECISIONS.md` makes.
 
 /// What stands before each program: `put` writes a number, and `line` writes one with a space behind.
-pub const BEFORE: &str = "\
+pub(crate) const BEFORE: &str = "\
     void put(int n){if(n<0)putchar(45);if(n>9||n<-9)put(n<0?-(n/10):n/10);putchar(48+(n<0?-(n%10):n%10));}void \
     line(int n){put(n);putchar(32);}";
 
@@ -28,7 +28,7 @@ int main(void){int a=1;line((a,2));line((a=5,a+1));line(a);return (putchar(65),p
     => 2 6 5 AB => Ended(5)";
 
 /// Conversions between integer types (C99 6.3.1).
-pub const CONVERSIONS: &str = "\
+pub(crate) const CONVERSIONS: &str = "\
 7 rows
 int main(void){char c=200;short s=70000;int i=c+s;line(c);line(s);line(i);c=s;line(c);return c;} \
     => -56 4464 4408 112  => Ended(112)
@@ -66,7 +66,7 @@ int main(void){int a=4,b;b=a>3&&a<5;line(b);b=(a==4)+(a!=4)*2;line(b);b=!(a>3||a
 int main(void){int a=2;while(a>0?a!=1:0)a--;do a+=3;while(!(a>9)&&a);line(a);return a>9?a?1:2:3;} => 10  => Ended(1)";
 
 /// Assignments, with an operator too, `++` and `--` (C99 6.5.2.4, 6.5.3.1 and 6.5.16).
-pub const ASSIGNMENTS: &str = "\
+pub(crate) const ASSIGNMENTS: &str = "\
 9 rows
 int main(void){int a=10;a+=5;line(a);a-=3;line(a);a*=4;line(a);a/=5;line(a);a%=4;line(a);return a;} \
     => 15 12 48 9 1  => Ended(1)
@@ -87,7 +87,7 @@ static short g=5; int main(void){g+=3;line(g++);line(--g);g<<=13;line(g);g^=1;li
 int main(void){int x=3;x=x+(x=10)*0+x;line(x);int y=2;y+=y++*0+y;line(y);return x;} => 13 5  => Ended(13)";
 
 /// Loops, `break` and `continue` (C99 6.8.5 and 6.8.6).
-pub const LOOPS: &str = "\
+pub(crate) const LOOPS: &str = "\
 9 rows
 int main(void){int i=0;while(i<5)line(i++);while(i>0){i--;if(i==3)continue;if(i==1)break;line(i);}return i;} \
     => 0 1 2 3 4 4 2  => Ended(1)
@@ -104,7 +104,7 @@ int main(void){for(int i=0;i<3;i++){int k;int a[2];line(k);line(a[1]);k=i+5;a[1]
 int main(void){int n=0;while(1)n++;return n;} =>  => TurnsSpent";
 
 /// `switch` (C99 6.8.4.2).
-pub const SWITCHES: &str = "\
+pub(crate) const SWITCHES: &str = "\
 7 rows
 void s(int n){switch(n){case 1:put(1);case 2:put(2);break;case 3:put(3);default:put(4);}putchar(32);}int \
     main(void){for(int i=0;i<5;i++)s(i);return 0;} => 4 12 2 34 4  => Ended(0)
@@ -122,7 +122,7 @@ int main(void){int n=0;while(n<9)switch(n){case 0:n=4;case 4:n++;break;default:n
     => 9  => Ended(9)";
 
 /// Functions, recursion and arguments (C99 6.5.2.2 and 6.9.1).
-pub const CALLS: &str = "\
+pub(crate) const CALLS: &str = "\
 12 rows
 int f(int n){return n<2?1:n*f(n-1);} int main(void){line(f(5));line(f(12));line(f(13));return f(6)%256;} \
     => 120 479001600 1932053504  => Ended(208)
@@ -146,7 +146,7 @@ int a(int m,int n){return m==0?n+1:n==0?a(m-1,1):a(m-1,a(m,n-1));} int main(void
 int main(void){line(7);} => 7  => Ended(0)";
 
 /// Arrays, strings and their initialisers (C99 6.5.2.1 and 6.7.8).
-pub const ARRAYS: &str = "\
+pub(crate) const ARRAYS: &str = "\
 9 rows
 int main(void){int a[5];for(int i=0;i<5;i++)a[i]=i*i;int s=0;for(int i=4;i>=0;i--)s=s*3+a[i];line(s);return a[3];} \
     => 1578  => Ended(9)
@@ -168,7 +168,7 @@ int main(void){char a[300];for(int i=0;i<300;i++)a[i]=i;line(a[130]);line(a[255]
     k[0];} => -126 -1  => Ended(3)";
 
 /// Pointers into arrays (C99 6.5.3.2, 6.5.6, 6.5.8 and 6.5.9).
-pub const POINTERS: &str = "\
+pub(crate) const POINTERS: &str = "\
 11 rows
 int main(void){int a[5]={1,2,3,4,5};int *p=a+1,*q=&a[4];line(*p);line(q-p);line(p<q);line(*(q-2));line(p[2]);return \
     *q;} => 2 3 1 3 4  => Ended(5)
@@ -193,7 +193,7 @@ int main(void){int a[3]={1,2,3};int *p=&a[0];int *q=p;q++;line(p<q);line(p<=p);l
     return 1[p];} => 1 1 1 1 1  => Ended(2)";
 
 /// Static objects and static locals (C99 6.2.4).
-pub const STATICS: &str = "\
+pub(crate) const STATICS: &str = "\
 8 rows
 int g=5; static char c=200; short s; int a[3]={1,2}; int main(void){line(g);line(c);line(s);line(a[1]+a[2]);g=a[0];\
     s=g+c;return s;} => 5 -56 0 2  => Ended(201)
@@ -213,7 +213,7 @@ int x=1; static int y=2; int main(void){static int x=3;{static int x=4;line(x++)
     => 4 5  => Ended(3)";
 
 /// `getchar`, `putchar` and `exit` (C99 7.19.7 and 7.20.4.3).
-pub const OUTSIDE: &str = "\
+pub(crate) const OUTSIDE: &str = "\
 7 rows
 int main(void){int c;while((c=getchar())!=-1)putchar(c+1);line(c);return getchar()==-1;} <= HAL => IBM-1  => Ended(1)
 int main(void){line(putchar(65));line(putchar(321));line(putchar(66)+1);exit(300);return 1;} \
@@ -227,7 +227,7 @@ int w(void){int n=0,in=0,c;while((c=getchar())!=-1){if(c==32)in=0;else{if(!in)n+
     main(void){return w();} <= the  four words  =>  => Ended(3)";
 
 /// Programs that trap.
-pub const TRAPS: &str = "\
+pub(crate) const TRAPS: &str = "\
 13 rows
 int main(void){int a=0;line(1);return 5/a;} => 1  => Trapped(Divide)
 int main(void){int a=0;return 5%a;} =>  => Trapped(Divide)

@@ -30,7 +30,7 @@ int main(void){for(int i=0;;)break; return @i;} => Undeclared
 int f(int a){return a;} int main(void){return @a;} => Undeclared";
 
 /// Two faults, of which one is the least.
-pub const LEAST: &str = "\
+pub(crate) const LEAST: &str = "\
 2 rows
 int main(void){return @y+(1=2);} => Undeclared
 int main(void){@return; x;} => TypeRule";

@@ -32,7 +32,7 @@ impl Text {
     }
 
     /// A number in digits, or a variant by its name.
-    pub fn push_shown<T: Debug>(&mut self, value: &T) {
+    pub(crate) fn push_shown<T: Debug>(&mut self, value: &T) {
         if write!(self.text, "{value:?}").is_err() {
             self.is_whole = false;
         }

@@ -187,7 +187,7 @@ fn push_statement(out: &mut Text, statement: &Statement) {
 }
 
 /// A unit: each function as its name and body, and each declaration.
-pub fn push_unit(out: &mut Text, unit: &RawUnit) {
+pub(crate) fn push_unit(out: &mut Text, unit: &RawUnit) {
     for external in &unit.externals {
         match external {
             External::Function {

@@ -1,7 +1,7 @@
 //! Programs that are typed.
 
 /// What a reader might take for a fault.
-pub const TYPED: &str = "\
+pub(crate) const TYPED: &str = "\
 41 rows
 int f(int f){return f;} int main(void){int x=1; {int x=2; return x+f(1);}}
 int short signed const x; signed y; char signed z; int main(void){return 0;}
