@@ -1,5 +1,5 @@
 -- What an op writes and reads it asks for: so these variables are there, where the op fits.
-use Rattle.std.proofs.Common.{◌≡◌, ℕ, List, [], ◌∷◌, ◌++◌, map, Option, Some, None, refl, subst}
+use Rattle.std.proofs.Common.{◌≡◌, ℕ, List, [], ◌∷◌, map, Some, None, subst}
 use Rattle.std.specs.List.{AllByRecursion}
 use Rattle.std.proofs.lemmas.Option.{none-some, same_Some}
 use Rattle.pcc_base.specs.declared.run.Width.{Width}
@@ -7,8 +7,8 @@ use Rattle.pcc_base.specs.declared.run.Width.TheVariants.{One, Two}
 use Rattle.flow_graph.specs.declared.op.Op.{Op}
 use Rattle.flow_graph.specs.declared.op.Op.TheVariants as op
 use Rattle.flow_graph.specs.Graphs.{FitsOp, Flow, HasWidth, IsMet}
-use Rattle.flow_graph.specs.Shapes.{About, Gives, Shape, divides, one_word, shape, shifts, two, two_words}
-use Rattle.flow_graph.specs.Shapes.{word_about}
+use Rattle.flow_graph.specs.Shapes.{About, Gives, Shape, branches, divides, one_word, shape, shifts, two, two_words}
+use Rattle.flow_graph.specs.Shapes.{word_about, word_of_byte}
 
 -- the graph has the variable
 abbrev pub HasVariable : Flow → ℕ → Type 0
@@ -30,6 +30,10 @@ nowhere flow v e = absurd (none-some v e)
 word-has : (flow : Flow) (d : ℕ) (about : About) → AllByRecursion (IsMet flow) (word_about d about).asks
     → HasAll flow (word_about d about)
 word-has flow d about fits = record { written = there flow d Two fits.0; read = tt }
+
+byte-has : (flow : Flow) (d s : ℕ) → AllByRecursion (IsMet flow) (word_of_byte d s).asks
+    → HasAll flow (word_of_byte d s)
+byte-has flow d s fits = record { written = there flow d Two fits.0; read = ((One, fits.1.0), tt) }
 
 one-has : (flow : Flow) (d a : ℕ) → AllByRecursion (IsMet flow) (one_word d a).asks → HasAll flow (one_word d a)
 one-has flow d a fits = record { written = there flow d Two fits.0; read = ((Two, fits.1.0), tt) }
@@ -54,6 +58,13 @@ division-has flow gives d a b fits = record {
   read = ((Two, fits.1.0), ((Two, fits.1.1.0), tt));
 }
 
+branch-has : (flow : Flow) (a b x y : ℕ) → AllByRecursion (IsMet flow) (branches a b x y).asks
+    → HasAll flow (branches a b x y)
+branch-has flow a b x y fits = record {
+  written = nowhere flow;
+  read = ((Two, fits.0), ((Two, fits.1.0), tt));
+}
+
 -- the words of a call
 words-have : (flow : Flow) (words : List ℕ) → AllByRecursion (IsMet flow) (map two words)
     → AllByRecursion (HasVariable flow) words
@@ -66,7 +77,8 @@ pub has-all : (flow : Flow) (o : Op) → FitsOp flow o → HasAll flow (shape o)
 has-all flow (op.Const d n) fits = record { written = there flow d fits.0.0 fits.0.1; read = tt }
 has-all flow (op.Copy d s) fits =
     record { written = there flow d fits.0.0 fits.0.1; read = ((fits.0.0, fits.0.2), tt) }
-has-all flow (op.Wide d s) fits = record { written = there flow d Two fits.0; read = ((One, fits.1.0), tt) }
+has-all flow (op.Wide d s) fits = byte-has flow d s fits
+has-all flow (op.Zero d s) fits = byte-has flow d s fits
 has-all flow (op.Low d s) fits = record { written = there flow d One fits.0; read = ((Two, fits.1.0), tt) }
 has-all flow (op.Low16 d s) fits = one-has flow d s fits
 has-all flow (op.Neg d a) fits = one-has flow d a fits
@@ -79,9 +91,13 @@ has-all flow (op.Or d a b) fits = two-have flow d a b fits
 has-all flow (op.Xor d a b) fits = two-have flow d a b fits
 has-all flow (op.Shl d a c) fits = shift-has flow d a c fits
 has-all flow (op.Sar d a c) fits = shift-has flow d a c fits
+has-all flow (op.Shr d a c) fits = shift-has flow d a c fits
 has-all flow (op.Div d a b) fits = division-has flow _ d a b fits
 has-all flow (op.Rem d a b) fits = division-has flow _ d a b fits
+has-all flow (op.Udiv d a b) fits = division-has flow _ d a b fits
+has-all flow (op.Urem d a b) fits = division-has flow _ d a b fits
 has-all flow (op.Set how d a b) fits = two-have flow d a b fits
+has-all flow (op.Setu how d a b) fits = two-have flow d a b fits
 has-all flow (op.Frame d k) fits = record { written = there flow d Two fits.0; read = tt }
 has-all flow (op.Static d k) fits = word-has flow d _ fits
 has-all flow (op.Load bits d p i) fits = two-have flow d p i fits
@@ -108,9 +124,7 @@ has-all flow (op.Same a b) fits = record {
 has-all flow (op.Mark s) fits = record { written = nowhere flow; read = tt }
 has-all flow op.Turn fits = record { written = nowhere flow; read = tt }
 has-all flow (op.Jump x) fits = record { written = nowhere flow; read = tt }
-has-all flow (op.Branch how a b x y) fits = record {
-  written = nowhere flow;
-  read = ((Two, fits.0), ((Two, fits.1.0), tt));
-}
+has-all flow (op.Branch how a b x y) fits = branch-has flow a b x y fits
+has-all flow (op.Branchu how a b x y) fits = branch-has flow a b x y fits
 has-all flow (op.Return None) fits = record { written = nowhere flow; read = tt }
 has-all flow (op.Return (Some a)) fits = record { written = nowhere flow; read = ((Two, fits.0), tt) }

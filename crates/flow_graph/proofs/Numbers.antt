@@ -11,6 +11,7 @@ use Rattle.pcc_base.specs.Objects.{FitsBytes}
 use Rattle.flow_graph.specs.declared.op.Bits.{Bits}
 use Rattle.flow_graph.specs.declared.op.Bits.TheVariants.{Eight, Sixteen, ThirtyTwo}
 use Rattle.flow_graph.specs.Meaning.{bytes_of, low_byte, no_quotient, shifted_right, stored}
+use Rattle.flow_graph.specs.Meaning.{zero_extended}
 
 -- ---- words
 
@@ -39,6 +40,10 @@ half-word n h = record { sfits = omega (arith, h.sfits) }
 -- the low byte is a byte
 pub low_byte-below : (n : ℤ) → low_byte n < 256
 low_byte-below n = mod-lt (cast_unsigned w32 n) (omega arith)
+
+-- a byte without its sign
+pub extended-fits : (n : ℤ) → FitsSigned w32 (zero_extended n)
+extended-fits n = byte-fits (low_byte n) (low_byte-below n)
 
 -- ---- bits and shifts
 

@@ -19,20 +19,20 @@ use Rattle.flow_graph.specs.declared.op.Comparison.TheVariants.{Eq}
 use Rattle.flow_graph.specs.declared.op.Op.{Op}
 use Rattle.flow_graph.specs.declared.op.Op.TheVariants as op
 use Rattle.flow_graph.specs.Graphs.{FitsOp, HasWidth, NumbersFit}
-use Rattle.flow_graph.specs.Meaning.{Moved, Halts, Stuck, accessed, act, bytes_of, checked, clears, comparison, divided}
-use Rattle.flow_graph.specs.Meaning.{given, gets, into_block, loads, low_byte, no_quotient, of_width, one_number}
-use Rattle.flow_graph.specs.Meaning.{onward, puts, sets}
-use Rattle.flow_graph.specs.Meaning.{gets_scalar, puts_scalar, shift_count, step, stored, stores, two_numbers}
+use Rattle.flow_graph.specs.Meaning.{Moved, Halts, Stuck, accessed, act, bytes_of, checked, clears, comparison}
+use Rattle.flow_graph.specs.Meaning.{divided_unless, given, gets, gets_scalar, into_block, loads, low_byte, no_quotient}
+use Rattle.flow_graph.specs.Meaning.{no_unsigned_quotient, of_width, one_number, onward, ordering, puts, puts_scalar}
+use Rattle.flow_graph.specs.Meaning.{sets, shift_count, step, stored, stores, two_numbers, unsigned_quotient}
+use Rattle.flow_graph.specs.Meaning.{unsigned_remainder}
 use Rattle.flow_graph.specs.States.{Elements, GraphProgram, State, Waiting, active_of, depth_of, element_at}
 use Rattle.flow_graph.specs.States.{elements_of, fitted, flow_at, array_at, number_at, op_at, value_at, width_of}
 use Rattle.flow_graph.specs.States.{with_array, with_element}
 use Rattle.flow_graph.specs.WellFormed.{AreElements, FitsWidth, IsGraphProgram, IsState, NamesWithin}
 use Rattle.flow_graph.specs.WellFormed.{functions_of}
 use Rattle.flow_graph.proofs.Lists.{All-at}
-use Rattle.flow_graph.proofs.Numbers.{and-fits, byte-fits, byte-word, element-fits, half-word, low_byte-below}
-use Rattle.flow_graph.proofs.Numbers.{not-fits, or-fits}
-use Rattle.flow_graph.proofs.Numbers.{quotient-fits, remainder-fits, shift-fits, stored-fits, xor-fits, zero-element}
-use Rattle.flow_graph.proofs.Numbers.{zero-word}
+use Rattle.flow_graph.proofs.Numbers.{and-fits, byte-fits, byte-word, element-fits, extended-fits, half-word}
+use Rattle.flow_graph.proofs.Numbers.{low_byte-below, not-fits, or-fits, quotient-fits, remainder-fits, shift-fits}
+use Rattle.flow_graph.proofs.Numbers.{signed-fits, stored-fits, xor-fits, zero-element, zero-word}
 use Rattle.flow_graph.proofs.Values.{number-is, op-at, value-fits}
 use Rattle.flow_graph.proofs.Arrays.{elements-fit, frame-there, own-elements}
 use Rattle.flow_graph.proofs.Calls.{calls-kept, returns-kept}
@@ -89,13 +89,13 @@ divides-kept : (program : GraphProgram) (s : State) (d : ℕ) (n : ℤ) (refused
 divides-kept program s d n true i wd fits = tt
 divides-kept program s d n false i wd fits = a-value program s d Two (Number n) i wd (fits refl)
 
-divided-kept : (program : GraphProgram) (s : State) (d a b : ℕ) (f : ℤ → ℤ → ℤ) → IsState program s
-    → Has program s d Two → Has program s a Two
-    → ((x y : ℤ) → FitsSigned w32 x → no_quotient x y ≡ false → FitsSigned w32 (f x y))
-    → Kept program (divided program s d a b f)
-divided-kept program s d a b f i wd wa fits =
+divided-kept : (program : GraphProgram) (s : State) (traps : ℤ → ℤ → Bool) (d a b : ℕ) (f : ℤ → ℤ → ℤ)
+    → IsState program s → Has program s d Two → Has program s a Two
+    → ((x y : ℤ) → FitsSigned w32 x → traps x y ≡ false → FitsSigned w32 (f x y))
+    → Kept program (divided_unless traps program s d a b f)
+divided-kept program s traps d a b f i wd wa fits =
     given-kept program (number_at s a) _ (λ x e. given-kept program (number_at s b) _
-    (λ y g. divides-kept program s d (f x y) (no_quotient x y) i wd
+    (λ y g. divides-kept program s d (f x y) (traps x y) i wd
     (fits x y (a-number program s a Two x i wa e))))
 
 -- 1 or 0
@@ -258,6 +258,8 @@ act-kept program s (op.Copy d a) h i at met names word =
     (λ value e. a-value program s d met.0.0 value i met.0.1 (in-variable program s a met.0.0 value i met.0.2 e))
 act-kept program s (op.Wide d a) h i at met names word =
     one-kept program s d a Two One (λ n. n) i met.0 met.1.0 byte-word
+act-kept program s (op.Zero d a) h i at met names word =
+    one-kept program s d a Two One _ i met.0 met.1.0 (λ x fits. extended-fits x)
 act-kept program s (op.Low d a) h i at met names word =
     one-kept program s d a One Two _ i met.0 met.1.0 (λ x fits. SFits-int_wrap w8 x)
 act-kept program s (op.Low16 d a) h i at met names word =
@@ -282,12 +284,23 @@ act-kept program s (op.Shl d a c) h i at met names word =
     two-kept program s d a c One _ i met.0 met.1.0 met.1.1.0 (λ x y fits. SFits-int_wrap w32 _)
 act-kept program s (op.Sar d a c) h i at met names word =
     two-kept program s d a c One _ i met.0 met.1.0 met.1.1.0 (λ x y fits. shift-fits x (shift_count y) fits)
+act-kept program s (op.Shr d a c) h i at met names word =
+    two-kept program s d a c One _ i met.0 met.1.0 met.1.1.0 (λ x y fits. signed-fits _)
 act-kept program s (op.Div d a b) h i at met names word =
-    divided-kept program s d a b int_div i met.0 met.1.0 (λ x y fits there. quotient-fits x y fits there)
+    divided-kept program s no_quotient d a b int_div i met.0 met.1.0
+    (λ x y fits there. quotient-fits x y fits there)
 act-kept program s (op.Rem d a b) h i at met names word =
-    divided-kept program s d a b int_rem i met.0 met.1.0 (λ x y fits there. remainder-fits x y fits)
+    divided-kept program s no_quotient d a b int_rem i met.0 met.1.0 (λ x y fits there. remainder-fits x y fits)
+act-kept program s (op.Udiv d a b) h i at met names word =
+    divided-kept program s no_unsigned_quotient d a b unsigned_quotient i met.0 met.1.0
+    (λ x y fits there. signed-fits _)
+act-kept program s (op.Urem d a b) h i at met names word =
+    divided-kept program s no_unsigned_quotient d a b unsigned_remainder i met.0 met.1.0
+    (λ x y fits there. signed-fits _)
 act-kept program s (op.Set how d a b) h i at met names word =
     given-kept program (comparison how s a b) _ (λ holds e. truth-kept program s d holds i met.0)
+act-kept program s (op.Setu how d a b) h i at met names word =
+    given-kept program (ordering how s a b) _ (λ holds e. truth-kept program s d holds i met.0)
 act-kept program s (op.Frame d k) h i at met names word =
     a-value program s d Two (Array (InFrame k (depth_of s))) i met.0 (frame-there program s k met.1.0)
 act-kept program s (op.Static d k) h i at met names word = a-value program s d Two (Array (Static k)) i met.0 names
@@ -319,6 +332,8 @@ act-kept program s op.Turn h i at met names word = onward-kept program s (store 
 act-kept program s (op.Jump x) h i at met names word = into-kept program s x (store program s i)
 act-kept program s (op.Branch how a b x y) h i at met names word =
     given-kept program (comparison how s a b) _ (λ holds e. both-ways program s holds x y i)
+act-kept program s (op.Branchu how a b x y) h i at met names word =
+    given-kept program (ordering how s a b) _ (λ holds e. both-ways program s holds x y i)
 act-kept program s (op.Return (Some a)) h i at met names word =
     given-kept program (number_at s a) _
     (λ n e. returns-kept program s (Some n) h i (a-number program s a Two n i met.0 e))

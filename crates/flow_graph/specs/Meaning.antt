@@ -1,8 +1,9 @@
 -- What each op does: one step from a state.
 use Rattle.std.specs.Prelude.{ℕ, ◌+◌, ◌/◌, ◌%◌, ◌^◌, ◌==◌, Bool, true, false, ◌&&◌, not, ℤ, pos, negsuc, ◌+ℤ◌, ◌-ℤ◌}
 use Rattle.std.specs.Prelude.{◌*ℤ◌, neg_ℤ, int_lt, int_div, int_rem, List, [], ◌∷◌, ◌++◌, length, replicate, slice_get}
-use Rattle.std.specs.Prelude.{Option, Some, None, ◌-◌, nat_le, if◌then◌else◌}
-use Rattle.std.specs.Int.{w8, w16, w32, int_wrap, int_bit_and, int_bit_or, int_bit_xor, int_bit_not, cast_unsigned}
+use Rattle.std.specs.Prelude.{Option, Some, None, ◌-◌, nat_le, nat_lt, if◌then◌else◌}
+use Rattle.std.specs.Int.{w8, w16, w32, int_wrap, int_bit_and, int_bit_or, int_bit_xor, int_bit_not, cast_signed}
+use Rattle.std.specs.Int.{cast_unsigned}
 use Rattle.std.specs.Ordering.{int_eq}
 use Rattle.pcc_base.specs.Outcome.{End, Ended, Trapped, ArrayName, Null, Static, InFrame, Unknown, Value, Number, Array}
 use Rattle.pcc_base.specs.declared.run.Trap.TheVariants.{Divide, Check}
@@ -10,6 +11,8 @@ use Rattle.flow_graph.specs.declared.op.Bits.{Bits}
 use Rattle.flow_graph.specs.declared.op.Bits.TheVariants.{Eight, Sixteen, ThirtyTwo}
 use Rattle.flow_graph.specs.declared.op.Comparison.{Comparison}
 use Rattle.flow_graph.specs.declared.op.Comparison.TheVariants.{Eq, Ne, Lt, Le, Gt, Ge}
+use Rattle.flow_graph.specs.declared.op.Order.{Order}
+use Rattle.flow_graph.specs.declared.op.Order.TheVariants as order
 use Rattle.flow_graph.specs.declared.op.Op.{Op}
 use Rattle.flow_graph.specs.declared.op.Op.TheVariants as op
 use Rattle.flow_graph.specs.Shapes.{Leads, Onward, IntoCall, ToBlock, ToEither, OutOfCall, OutOfProgram, shape}
@@ -70,10 +73,52 @@ shifted_right (negsuc n) k = negsuc (n / 2 ^ k)
 abbrev pub no_quotient : ℤ → ℤ → Bool
 no_quotient a b = if int_eq b (pos 0) then true else int_eq a (negsuc 0x7fffffff) && int_eq b (negsuc 0)
 
-abbrev pub divided : GraphProgram → State → ℕ → ℕ → ℕ → (ℤ → ℤ → ℤ) → Moved
-divided program s d a b f =
-    given (number_at s a) (λ x. given (number_at s b) (λ y. if no_quotient x y then Halts (Trapped Divide)
+-- a number of two others that traps for some of them
+abbrev pub divided_unless : (ℤ → ℤ → Bool) → GraphProgram → State → ℕ → ℕ → ℕ → (ℤ → ℤ → ℤ) → Moved
+divided_unless traps program s d a b f =
+    given (number_at s a) (λ x. given (number_at s b) (λ y. if traps x y then Halts (Trapped Divide)
     else sets program s d (Number (f x y))))
+
+abbrev pub divided : GraphProgram → State → ℕ → ℕ → ℕ → (ℤ → ℤ → ℤ) → Moved
+divided program s d a b f = divided_unless no_quotient program s d a b f
+
+-- ---- numbers without sign
+
+-- the number from 0 with the bits of a number of 32 bits
+abbrev pub unsigned : ℤ → ℕ
+unsigned n = cast_unsigned w32 n
+
+-- the signed number with the bits of a number from 0 that has 32
+abbrev pub with_bits : ℕ → ℤ
+with_bits n = cast_signed w32 n
+
+-- the low 8 bits of a number, as a number from 0
+abbrev pub low_byte : ℤ → ℕ
+low_byte n = unsigned n % 256
+
+-- a byte with zero bits above it
+abbrev pub zero_extended : ℤ → ℤ
+zero_extended n = pos (low_byte n)
+
+-- a shift to the right that fills with zero bits
+abbrev pub shifted_unsigned : ℤ → ℕ → ℤ
+shifted_unsigned n k = with_bits (unsigned n / 2 ^ k)
+
+-- only a zero divisor traps
+abbrev pub no_unsigned_quotient : ℤ → ℤ → Bool
+no_unsigned_quotient a b = int_eq b (pos 0)
+
+abbrev pub unsigned_quotient : ℤ → ℤ → ℤ
+unsigned_quotient a b = with_bits (unsigned a / unsigned b)
+
+abbrev pub unsigned_remainder : ℤ → ℤ → ℤ
+unsigned_remainder a b = with_bits (unsigned a % unsigned b)
+
+abbrev pub ordered : Order → ℤ → ℤ → Bool
+ordered order.Lt x y = nat_lt (unsigned x) (unsigned y)
+ordered order.Le x y = nat_le (unsigned x) (unsigned y)
+ordered order.Gt x y = nat_lt (unsigned y) (unsigned x)
+ordered order.Ge x y = nat_le (unsigned y) (unsigned x)
 
 -- ---- comparisons
 
@@ -113,6 +158,10 @@ first_of None other = other
 abbrev pub comparison : Comparison → State → ℕ → ℕ → Option Bool
 comparison how s a b = first_of (both (number_at s a) (number_at s b) (compared how))
     (arrays_compared how (array_at s a) (array_at s b))
+
+-- two numbers without sign
+abbrev pub ordering : Order → State → ℕ → ℕ → Option Bool
+ordering how s a b = both (number_at s a) (number_at s b) (ordered how)
 
 -- ---- accesses
 
@@ -220,9 +269,6 @@ result_to program s n None = Stuck
 result_to program s n (Some op) = resumes program s (shape op).leads n
 
 -- The exit status is the low 8 bits of what the first call returns (C99 5.1.2.2.3).
-abbrev pub low_byte : ℤ → ℕ
-low_byte n = cast_unsigned w32 n % 256
-
 abbrev pub ends_program : Option ℤ → Moved
 ends_program None = Stuck
 ends_program (Some n) = Halts (Ended (low_byte n))
@@ -248,6 +294,7 @@ abbrev pub act : GraphProgram → State → Op → Moved
 act program s (op.Const d n) = sets program s d (Number (fitted (width_of program s d) n))
 act program s (op.Copy d a) = given (value_at s a) (sets program s d)
 act program s (op.Wide d a) = one_number program s d a (λ n. n)
+act program s (op.Zero d a) = one_number program s d a zero_extended
 act program s (op.Low d a) = one_number program s d a (int_wrap w8)
 act program s (op.Low16 d a) = one_number program s d a (int_wrap w16)
 act program s (op.Neg d a) = one_number program s d a (λ n. int_wrap w32 (neg_ℤ n))
@@ -260,9 +307,14 @@ act program s (op.Or d a b) = two_numbers program s d a b (int_bit_or w32)
 act program s (op.Xor d a b) = two_numbers program s d a b (int_bit_xor w32)
 act program s (op.Shl d a c) = two_numbers program s d a c (λ x y. int_wrap w32 (x *ℤ pos (2 ^ shift_count y)))
 act program s (op.Sar d a c) = two_numbers program s d a c (λ x y. shifted_right x (shift_count y))
+act program s (op.Shr d a c) = two_numbers program s d a c (λ x y. shifted_unsigned x (shift_count y))
 act program s (op.Div d a b) = divided program s d a b int_div
 act program s (op.Rem d a b) = divided program s d a b int_rem
+act program s (op.Udiv d a b) = divided_unless no_unsigned_quotient program s d a b unsigned_quotient
+act program s (op.Urem d a b) = divided_unless no_unsigned_quotient program s d a b unsigned_remainder
 act program s (op.Set how d a b) = given (comparison how s a b)
+    (λ holds. sets program s d (Number (if holds then pos 1 else pos 0)))
+act program s (op.Setu how d a b) = given (ordering how s a b)
     (λ holds. sets program s d (Number (if holds then pos 1 else pos 0)))
 act program s (op.Frame d k) = sets program s d (Array (InFrame k (depth_of s)))
 act program s (op.Static d k) = sets program s d (Array (Static k))
@@ -285,6 +337,8 @@ act program s (op.Mark statement) = onward program s
 act program s op.Turn = onward program s
 act program s (op.Jump x) = into_block program x s
 act program s (op.Branch how a b x y) = given (comparison how s a b)
+    (λ holds. into_block program (if holds then x else y) s)
+act program s (op.Branchu how a b x y) = given (ordering how s a b)
     (λ holds. into_block program (if holds then x else y) s)
 act program s (op.Return (Some a)) = given (number_at s a) (λ n. returns_to program s s.waiting (Some n))
 act program s (op.Return None) = returns_to program s s.waiting None

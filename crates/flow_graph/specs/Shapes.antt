@@ -5,10 +5,10 @@ use Rattle.std.specs.Prelude.{ℕ, ℤ, List, [], ◌∷◌, ◌++◌, map, Opti
 use Rattle.pcc_base.specs.declared.run.Width.{Width}
 use Rattle.pcc_base.specs.declared.run.Width.TheVariants.{One, Two}
 use Rattle.flow_graph.specs.declared.op.Op.{Op}
-use Rattle.flow_graph.specs.declared.op.Op.TheVariants.{Const, Copy, Wide, Low, Low16, Neg, Not, Add, Sub, Mul, And, Or}
-use Rattle.flow_graph.specs.declared.op.Op.TheVariants.{Xor, Shl, Sar, Div, Rem, Set, Frame, Static, Load, Store, Get}
-use Rattle.flow_graph.specs.declared.op.Op.TheVariants.{Put, Clear, Param, Call, Putchar, Getchar, Exit, Same, Mark}
-use Rattle.flow_graph.specs.declared.op.Op.TheVariants.{Turn, Jump, Branch, Return}
+use Rattle.flow_graph.specs.declared.op.Op.TheVariants.{Const, Copy, Wide, Zero, Low, Low16, Neg, Not, Add, Sub, Mul}
+use Rattle.flow_graph.specs.declared.op.Op.TheVariants.{And, Or, Xor, Shl, Sar, Shr, Div, Rem, Udiv, Urem, Set, Setu}
+use Rattle.flow_graph.specs.declared.op.Op.TheVariants.{Frame, Static, Load, Store, Get, Put, Clear, Param, Call, Putchar}
+use Rattle.flow_graph.specs.declared.op.Op.TheVariants.{Getchar, Exit, Same, Mark, Turn, Jump, Branch, Branchu, Return}
 
 -- ---- the parts of a shape
 
@@ -87,6 +87,10 @@ plain writes reads asks about =
 abbrev pub word_about : ℕ → About → Shape
 word_about d about = plain (Some d) [] (two d ∷ []) about
 
+-- a word of one byte
+abbrev pub word_of_byte : ℕ → ℕ → Shape
+word_of_byte d s = plain (Some d) (s ∷ []) (two d ∷ Variable s One ∷ []) NothingElse
+
 -- a word of one word
 abbrev pub one_word : ℕ → ℕ → Shape
 one_word d a = plain (Some d) (a ∷ []) (two d ∷ two a ∷ []) NothingElse
@@ -129,12 +133,17 @@ abbrev pub ends : List ℕ → List Need → Leads → Shape
 ends reads asks leads =
     record { writes = None; reads = reads; asks = asks; about = NothingElse; leads = leads; takes = NoRegister }
 
+-- an end of a block after two words, that goes to one of two blocks
+abbrev pub branches : ℕ → ℕ → ℕ → ℕ → Shape
+branches a b x y = ends (a ∷ b ∷ []) (two a ∷ two b ∷ Target x ∷ Target y ∷ []) (ToEither x y)
+
 -- ---- the table
 
 abbrev pub shape : Op → Shape
 shape (Const d n) = plain (Some d) [] (AnyWidth d ∷ []) (TheNumber n)
 shape (Copy d s) = plain (Some d) (s ∷ []) (SameWidth d s ∷ []) NothingElse
-shape (Wide d s) = plain (Some d) (s ∷ []) (two d ∷ Variable s One ∷ []) NothingElse
+shape (Wide d s) = word_of_byte d s
+shape (Zero d s) = word_of_byte d s
 shape (Low d s) = plain (Some d) (s ∷ []) (Variable d One ∷ two s ∷ []) NothingElse
 shape (Low16 d s) = one_word d s
 shape (Neg d a) = one_word d a
@@ -147,9 +156,13 @@ shape (Or d a b) = two_words d a b
 shape (Xor d a b) = two_words d a b
 shape (Shl d a c) = shifts d a c
 shape (Sar d a c) = shifts d a c
+shape (Shr d a c) = shifts d a c
 shape (Div d a b) = divides Quotient d a b
 shape (Rem d a b) = divides Remainder d a b
+shape (Udiv d a b) = divides Quotient d a b
+shape (Urem d a b) = divides Remainder d a b
 shape (Set how d a b) = two_words d a b
+shape (Setu how d a b) = two_words d a b
 shape (Frame d k) = plain (Some d) [] (two d ∷ FrameArray k ∷ []) NothingElse
 shape (Static d k) = word_about d (TheObject k)
 shape (Load bits d p i) = two_words d p i
@@ -174,5 +187,6 @@ shape (Same a b) = plain None (a ∷ b ∷ []) (two a ∷ two b ∷ []) NothingE
 shape (Mark s) = plain None [] [] (TheStatement s)
 shape Turn = plain None [] [] TheTurn
 shape (Jump x) = ends [] (Target x ∷ []) (ToBlock x)
-shape (Branch how a b x y) = ends (a ∷ b ∷ []) (two a ∷ two b ∷ Target x ∷ Target y ∷ []) (ToEither x y)
+shape (Branch how a b x y) = branches a b x y
+shape (Branchu how a b x y) = branches a b x y
 shape (Return a) = ends (if_any a) (two_if_any a) OutOfCall

@@ -22,9 +22,10 @@ mod words;
 pub use graph::Graph;
 pub use laws::{
     live_step, live_within, never_stuck, one_block, one_outcome, one_state, worked_example,
+    worked_unsigned,
 };
 pub use live_sets::LiveSets;
-pub use op::{Bits, Comparison, Op};
+pub use op::{Bits, Comparison, Op, Order};
 pub use state_laws::{
     first_is_state, functions_begin, held_arrays, held_frames, states_are_states, step_keeps_state,
     worked_depths, worked_states,

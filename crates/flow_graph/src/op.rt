@@ -27,9 +27,19 @@ pub enum Comparison {
     Ge,
 }
 
+/// How two numbers are ordered that are taken without sign: `<`, `<=`, `>` and `>=` (C99 6.3.1.8 and 6.5.8).
+#[derive(Clone, Copy)]
+pub enum Order {
+    Lt,
+    Le,
+    Gt,
+    Ge,
+}
+
 /// What happens at a point. A variable of width Two holds 32 bits or an array, one of width One a byte.
 /// The first part of most ops is the variable that is written; the parts are of width Two unless it is
-/// said otherwise. A function and a static object go by their numbers in the whole program.
+/// said otherwise. A function and a static object go by their numbers in the whole program. Each number that is held is the
+/// signed one with its bits; an op that takes a number without sign takes the one from 0 with the same bits.
 #[derive(Drop)]
 pub enum Op {
     /// A number into a variable of either width.
@@ -38,6 +48,8 @@ pub enum Op {
     Copy(u32, u32),
     /// A byte, of width One, sign-extended.
     Wide(u32, u32),
+    /// A byte, of width One, zero-extended.
+    Zero(u32, u32),
     /// The low byte, into a variable of width One.
     Low(u32, u32),
     /// The number wrapped at 16 bits.
@@ -62,12 +74,20 @@ pub enum Op {
     Shl(u32, u32, u32),
     /// An arithmetic shift to the right; the count is of width One and taken modulo 32.
     Sar(u32, u32, u32),
+    /// A shift to the right that fills with zero bits; the count is of width One and taken modulo 32.
+    Shr(u32, u32, u32),
     /// The quotient, towards zero. It may trap.
     Div(u32, u32, u32),
     /// The remainder, with the sign of the dividend. It may trap.
     Rem(u32, u32, u32),
+    /// The quotient of numbers without sign. It may trap.
+    Udiv(u32, u32, u32),
+    /// The remainder of numbers without sign. It may trap.
+    Urem(u32, u32, u32),
     /// 1 where the comparison holds, else 0.
     Set(Comparison, u32, u32, u32),
+    /// 1 where two numbers without sign are so ordered, else 0.
+    Setu(Order, u32, u32, u32),
     /// The frame array of that number.
     Frame(u32, u32),
     /// The static object of that number.
@@ -102,6 +122,8 @@ pub enum Op {
     Jump(u32),
     /// Compares two values, and goes to the first block where that holds, else to the second.
     Branch(Comparison, u32, u32, u32, u32),
+    /// Orders two numbers without sign, and goes to the first block where they are so ordered, else to the second.
+    Branchu(Order, u32, u32, u32, u32),
     /// Ends a call, with its result or without.
     Return(Option<u32>),
 }
@@ -151,14 +173,18 @@ impl Op {
             Op::Static(_, number) | Op::Get(_, _, number) => is_word(number),
             Op::Put(_, number, _) | Op::Param(_, number) => is_word(number),
             Op::Call(_, number, _) | Op::Mark(number) => is_word(number),
-            Op::Copy(_, _) | Op::Wide(_, _) | Op::Low(_, _) | Op::Low16(_, _) => {}
+            Op::Copy(_, _) | Op::Wide(_, _) | Op::Zero(_, _) => {}
+            Op::Low(_, _) | Op::Low16(_, _) => {}
             Op::Neg(_, _) | Op::Not(_, _) | Op::Frame(_, _) | Op::Putchar(_, _) => {}
             Op::Add(_, _, _) | Op::Sub(_, _, _) | Op::Mul(_, _, _) => {}
             Op::And(_, _, _) | Op::Or(_, _, _) | Op::Xor(_, _, _) => {}
-            Op::Shl(_, _, _) | Op::Sar(_, _, _) | Op::Div(_, _, _) | Op::Rem(_, _, _) => {}
-            Op::Set(_, _, _, _) | Op::Load(_, _, _, _) | Op::Store(_, _, _, _) => {}
+            Op::Shl(_, _, _) | Op::Sar(_, _, _) | Op::Shr(_, _, _) => {}
+            Op::Div(_, _, _) | Op::Rem(_, _, _) | Op::Udiv(_, _, _) | Op::Urem(_, _, _) => {}
+            Op::Set(_, _, _, _) | Op::Setu(_, _, _, _) => {}
+            Op::Load(_, _, _, _) | Op::Store(_, _, _, _) => {}
             Op::Clear(_) | Op::Getchar(_) | Op::Exit(_) | Op::Same(_, _) => {}
-            Op::Turn | Op::Jump(_) | Op::Branch(_, _, _, _, _) | Op::Return(_) => {}
+            Op::Turn | Op::Jump(_) | Op::Return(_) => {}
+            Op::Branch(_, _, _, _, _) | Op::Branchu(_, _, _, _, _) => {}
         }
     }
 
@@ -168,18 +194,22 @@ impl Op {
     {
         match *self {
             Op::Const(to, _) | Op::Frame(to, _) | Op::Static(to, _) => Some(to),
-            Op::Copy(to, _) | Op::Wide(to, _) | Op::Low(to, _) | Op::Low16(to, _) => Some(to),
+            Op::Copy(to, _) | Op::Wide(to, _) | Op::Zero(to, _) => Some(to),
+            Op::Low(to, _) | Op::Low16(to, _) => Some(to),
             Op::Neg(to, _) | Op::Not(to, _) | Op::Putchar(to, _) => Some(to),
             Op::Add(to, _, _) | Op::Sub(to, _, _) | Op::Mul(to, _, _) => Some(to),
             Op::And(to, _, _) | Op::Or(to, _, _) | Op::Xor(to, _, _) => Some(to),
-            Op::Shl(to, _, _) | Op::Sar(to, _, _) => Some(to),
+            Op::Shl(to, _, _) | Op::Sar(to, _, _) | Op::Shr(to, _, _) => Some(to),
             Op::Div(to, _, _) | Op::Rem(to, _, _) => Some(to),
-            Op::Set(_, to, _, _) | Op::Load(_, to, _, _) | Op::Get(_, to, _) => Some(to),
+            Op::Udiv(to, _, _) | Op::Urem(to, _, _) => Some(to),
+            Op::Set(_, to, _, _) | Op::Setu(_, to, _, _) => Some(to),
+            Op::Load(_, to, _, _) | Op::Get(_, to, _) => Some(to),
             Op::Param(to, _) | Op::Getchar(to) => Some(to),
             Op::Call(to, _, _) => to,
             Op::Store(_, _, _, _) | Op::Put(_, _, _) | Op::Clear(_) => None,
             Op::Same(_, _) | Op::Mark(_) | Op::Turn => None,
-            Op::Jump(_) | Op::Branch(_, _, _, _, _) | Op::Return(_) | Op::Exit(_) => None,
+            Op::Jump(_) | Op::Return(_) | Op::Exit(_) => None,
+            Op::Branch(_, _, _, _, _) | Op::Branchu(_, _, _, _, _) => None,
         }
     }
 
@@ -191,15 +221,19 @@ impl Op {
             Op::Const(_, _) | Op::Frame(_, _) | Op::Static(_, _) | Op::Get(_, _, _) => None,
             Op::Clear(_) | Op::Param(_, _) | Op::Getchar(_) => None,
             Op::Mark(_) | Op::Turn | Op::Jump(_) => None,
-            Op::Copy(_, from) | Op::Wide(_, from) | Op::Low(_, from) => first(place, from),
-            Op::Low16(_, from) | Op::Neg(_, from) | Op::Not(_, from) => first(place, from),
+            Op::Copy(_, from) | Op::Wide(_, from) | Op::Zero(_, from) => first(place, from),
+            Op::Low(_, from) | Op::Low16(_, from) | Op::Neg(_, from) | Op::Not(_, from) => first(
+                place, from,
+            ),
             Op::Put(_, _, from) | Op::Putchar(_, from) | Op::Exit(from) => first(place, from),
             Op::Add(_, a, b) | Op::Sub(_, a, b) | Op::Mul(_, a, b) => either(place, a, b),
             Op::And(_, a, b) | Op::Or(_, a, b) | Op::Xor(_, a, b) => either(place, a, b),
-            Op::Shl(_, a, b) | Op::Sar(_, a, b) => either(place, a, b),
+            Op::Shl(_, a, b) | Op::Sar(_, a, b) | Op::Shr(_, a, b) => either(place, a, b),
             Op::Div(_, a, b) | Op::Rem(_, a, b) => either(place, a, b),
-            Op::Set(_, _, a, b) | Op::Load(_, _, a, b) => either(place, a, b),
-            Op::Same(a, b) | Op::Branch(_, a, b, _, _) => either(place, a, b),
+            Op::Udiv(_, a, b) | Op::Urem(_, a, b) => either(place, a, b),
+            Op::Set(_, _, a, b) | Op::Setu(_, _, a, b) => either(place, a, b),
+            Op::Load(_, _, a, b) | Op::Same(a, b) => either(place, a, b),
+            Op::Branch(_, a, b, _, _) | Op::Branchu(_, a, b, _, _) => either(place, a, b),
             Op::Store(_, array, index, from) => one_of_three(place, array, index, from),
             Op::Call(_, _, ref words) => words.at(place),
             Op::Return(Some(from)) => first(place, from),
@@ -215,13 +249,16 @@ impl Op {
             Op::Const(_, _) | Op::Frame(_, _) | Op::Static(_, _) | Op::Get(_, _, _) => 0,
             Op::Clear(_) | Op::Param(_, _) | Op::Getchar(_) => 0,
             Op::Mark(_) | Op::Turn | Op::Jump(_) => 0,
-            Op::Copy(_, _) | Op::Wide(_, _) | Op::Low(_, _) | Op::Low16(_, _) => 1,
+            Op::Copy(_, _) | Op::Wide(_, _) | Op::Zero(_, _) => 1,
+            Op::Low(_, _) | Op::Low16(_, _) => 1,
             Op::Neg(_, _) | Op::Not(_, _) | Op::Put(_, _, _) | Op::Putchar(_, _) | Op::Exit(_) => 1,
             Op::Add(_, _, _) | Op::Sub(_, _, _) | Op::Mul(_, _, _) => 2,
             Op::And(_, _, _) | Op::Or(_, _, _) | Op::Xor(_, _, _) => 2,
-            Op::Shl(_, _, _) | Op::Sar(_, _, _) | Op::Div(_, _, _) | Op::Rem(_, _, _) => 2,
-            Op::Set(_, _, _, _) | Op::Load(_, _, _, _) => 2,
-            Op::Same(_, _) | Op::Branch(_, _, _, _, _) => 2,
+            Op::Shl(_, _, _) | Op::Sar(_, _, _) | Op::Shr(_, _, _) => 2,
+            Op::Div(_, _, _) | Op::Rem(_, _, _) | Op::Udiv(_, _, _) | Op::Urem(_, _, _) => 2,
+            Op::Set(_, _, _, _) | Op::Setu(_, _, _, _) => 2,
+            Op::Load(_, _, _, _) | Op::Same(_, _) => 2,
+            Op::Branch(_, _, _, _, _) | Op::Branchu(_, _, _, _, _) => 2,
             Op::Store(_, _, _, _) => 3,
             Op::Call(_, _, ref words) => words.len(),
             Op::Return(Some(_)) => 1,
@@ -237,6 +274,7 @@ impl Op {
             Op::Const(to, number) => Op::Const(to, number),
             Op::Copy(to, from) => Op::Copy(to, from),
             Op::Wide(to, from) => Op::Wide(to, from),
+            Op::Zero(to, from) => Op::Zero(to, from),
             Op::Low(to, from) => Op::Low(to, from),
             Op::Low16(to, from) => Op::Low16(to, from),
             Op::Neg(to, a) => Op::Neg(to, a),
@@ -249,9 +287,13 @@ impl Op {
             Op::Xor(to, a, b) => Op::Xor(to, a, b),
             Op::Shl(to, a, count) => Op::Shl(to, a, count),
             Op::Sar(to, a, count) => Op::Sar(to, a, count),
+            Op::Shr(to, a, count) => Op::Shr(to, a, count),
             Op::Div(to, a, b) => Op::Div(to, a, b),
             Op::Rem(to, a, b) => Op::Rem(to, a, b),
+            Op::Udiv(to, a, b) => Op::Udiv(to, a, b),
+            Op::Urem(to, a, b) => Op::Urem(to, a, b),
             Op::Set(how, to, a, b) => Op::Set(how, to, a, b),
+            Op::Setu(how, to, a, b) => Op::Setu(how, to, a, b),
             Op::Frame(to, array) => Op::Frame(to, array),
             Op::Static(to, object) => Op::Static(to, object),
             Op::Load(bits, to, array, index) => Op::Load(bits, to, array, index),
@@ -269,6 +311,7 @@ impl Op {
             Op::Turn => Op::Turn,
             Op::Jump(block) => Op::Jump(block),
             Op::Branch(how, a, b, x, y) => Op::Branch(how, a, b, x, y),
+            Op::Branchu(how, a, b, x, y) => Op::Branchu(how, a, b, x, y),
             Op::Return(from) => Op::Return(from),
         })
     }
