@@ -22,6 +22,7 @@ use Rattle.ia32_insn.proofs.Access.{load-elsewhere, load-stored, store-keeps_res
 use Rattle.ia32_insn.proofs.Splices.{length-replaced}
 use Rattle.ia32_rows.specs.Placements.{below}
 use Rattle.ia32_rows.specs.Sites.{Site, SoundAt, Framed, Anywhere, data_from}
+use Rattle.ia32_rows.proofs.Small.{replaced-small}
 use Rattle.ia32_rows.proofs.Sound.{areas-apart, bytes-in, load-in, word-below}
 use Rattle.ia32_rows.proofs.Frames.{below-address}
 use Rattle.ia32_rows.specs.Rows.{read, write}
@@ -87,6 +88,7 @@ store-byte-in site a value s h from to fits =
       size = ap (λ (k : ℕ). site.low + k) long ∙ size;
       above = h.above;
       below = h.below;
+      small = replaced-small (a - site.low) 1 value (a - site.low + length new) h.bytes h.small;
       registers = h.registers;
     } in
     let old = load-in site.text site.low site.high 1 a s h from to in (

@@ -23,7 +23,7 @@ use Rattle.ia32_insn.specs.declared.item.Item.TheVariants as item
 use Rattle.ia32_insn.specs.declared.flags.Flags.{Flags}
 use Rattle.ia32_insn.specs.State.{State, at_address}
 use Rattle.ia32_insn.specs.Arithmetic.{difference, alu_flags, holds}
-use Rattle.ia32_insn.specs.Meaning.{and_then, or_end, denied, address_of, load, store, word_of, with_flags, effect}
+use Rattle.ia32_insn.specs.Meaning.{and_then, or_end, denied, load, store, word_of, with_flags, effect}
 use Rattle.ia32_insn.specs.Meaning.{target}
 use Rattle.ia32_insn.specs.Keeps.{AreDisjoint}
 use Rattle.ia32_insn.specs.Items.{plain, near}

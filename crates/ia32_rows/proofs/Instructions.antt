@@ -41,8 +41,8 @@ byte-sound site r v s h fits =
       size = h.size;
       above = h.above;
       below = h.below;
-      registers =
-          AreRegisters-set (byte_place r) v s.registers fits h.registers;
+      small = h.small;
+      registers = AreRegisters-set (byte_place r) v s.registers fits h.registers;
     }
 
 -- MOV between registers

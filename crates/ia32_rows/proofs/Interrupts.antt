@@ -48,9 +48,9 @@ write-goes site items y a s sound ready eax ebx ecx edx held from to =
       bytes = sound.bytes;
       memory = sound.memory;
       size = sound.size;
-      above =
-          sound.above;
+      above = sound.above;
       below = sound.below;
+      small = sound.small;
       registers = sound.registers;
     } in
     let does = write-does y a s eax ebx ecx edx (one-byte site.text site.low site.high a y s sound from to held) in

@@ -17,6 +17,7 @@ use Rattle.ia32_insn.specs.declared.operand.Rm32.TheVariants as rm
 use Rattle.ia32_insn.specs.declared.operand.Rm8.TheVariants as rm8
 use Rattle.ia32_insn.specs.declared.insn.AluOp.{AluOp}
 use Rattle.ia32_insn.specs.declared.insn.AluOp.TheVariants as alu
+use Rattle.ia32_insn.specs.declared.operand.Rm8.{Rm8}
 use Rattle.ia32_insn.specs.declared.insn.Cond.{Cond}
 use Rattle.ia32_insn.specs.declared.insn.Cond.TheVariants as cond
 use Rattle.ia32_insn.specs.declared.insn.Insn.{Insn}
@@ -42,10 +43,11 @@ use Rattle.ia32_rows.specs.Follows.{is_nop}
 use Rattle.ia32_rows.specs.Placements.{Placement, below}
 use Rattle.ia32_rows.specs.Moves.{has_operand, is_at, is_in, target_of, working, read, write, operate, number_row}
 use Rattle.ia32_rows.specs.Moves.{adding, by_register, copy_row, in_slot, operation, commuting, pass, sum_of}
-use Rattle.ia32_rows.specs.Computing.{multiply, product_of, multiplying, changing, low_byte, extend, widening, lowering}
+use Rattle.ia32_rows.specs.Computing.{multiply, product_of, multiplying, changing, low_byte, byte_operand, extend}
+use Rattle.ia32_rows.specs.Computing.{widening, lowering}
 use Rattle.ia32_rows.specs.Computing.{extend_half, halving, into_count, shifted_in, shifting, clear_divisor}
-use Rattle.ia32_rows.specs.Computing.{choosing, divisor_of, before_division, dividing, cond_of, comparing, jumping}
-use Rattle.ia32_rows.specs.Computing.{set_row}
+use Rattle.ia32_rows.specs.Computing.{choosing, divisor_of, before_division, dividing, cond_of, cond_of_order, comparing}
+use Rattle.ia32_rows.specs.Computing.{branching, jumping, set_row, setting, zero_edx}
 use Rattle.ia32_rows.specs.Passing.{argument_word, param_row, pass_all, deepen, undeepen, drop_words, write_any}
 use Rattle.ia32_rows.specs.Passing.{before_call, behind_call, call_row, leave, return_row, prologue}
 use Rattle.ia32_rows.specs.Accesses.{loading, load_from, storing, store_to, index_register, count_before, element}
@@ -293,25 +295,23 @@ changing-row how p q common =
     written-row (read t q ++ one) p t
     (row-behind IsPlain (read t q) one (read-insns t q) ((common (rm.Reg t), tt), tt))
 
-extend-row : (t : Reg32) (p : Place) → IsPlainRow (extend t p)
-extend-row t (InWord r) = ((tt, tt), tt)
-extend-row t (InByte r) = ((tt, tt), tt)
-extend-row t (InSlot k) = ((tt, tt), tt)
-
-widening-row : (p q : Place) → IsPlainRow (widening p q)
-widening-row p q = written-row (extend (target_of p) q) p (target_of p) (extend-row (target_of p) q)
+widening-row : (how : Reg32 → Rm8 → Insn) (p q : Place) → ((t : Reg32) (operand : Rm8) → IsPlain (plain (how t operand)))
+    → IsPlainRow (widening how p q)
+widening-row how p q common =
+    let t : Reg32 = target_of p in
+    written-row (extend how t q) p t ((common t (byte_operand q), tt), tt)
 
 lowering-row : (p q : Place) → IsPlainRow (lowering p q)
 lowering-row (InWord r) q = copy-row q (InWord r)
 lowering-row (InByte r) (InWord q) = copy-row (InByte (low_byte q)) (InByte r)
 lowering-row (InByte r) (InByte q) = copy-row (InByte q) (InByte r)
-lowering-row (InByte r) (InSlot k) = ((tt, (tt, (tt, tt))), tt)
+lowering-row (InByte r) (InSlot k) = ((tt, tt), tt)
 lowering-row (InSlot k) q = copy-row q (InSlot k)
 
 half-row : (t : Reg32) (p : Place) → IsPlainRow (extend_half t p)
 half-row t (InWord r) = ((tt, tt), tt)
 half-row t (InByte r) = ((tt, (tt, tt)), tt)
-half-row t (InSlot k) = ((tt, (tt, tt)), tt)
+half-row t (InSlot k) = ((tt, tt), tt)
 
 halving-row : (p q : Place) → IsPlainRow (halving p q)
 halving-row p q = written-row (extend_half (target_of p) q) p (target_of p) (half-row (target_of p) q)
@@ -337,15 +337,16 @@ clear-insns (InWord r) =
 clear-insns (InByte r) = (tt, tt)
 clear-insns (InSlot k) = tt
 
-dividing-row : (part : Reg32) (p q r : Place) → IsPlainRow (dividing part p q r)
-dividing-row part p q r =
-    let sign : List Item = plain insn.Cdq ∷ [] in
-    let one : List Item = plain (insn.IDiv (divisor_of r)) ∷ [] in
-    written-row (before_division q r ++ one) p part
-    (row-behind IsPlain (before_division q r) one
-    (all-append IsPlain (clear_divisor r ++ read Eax q) sign
-    (all-append IsPlain (clear_divisor r) (read Eax q) (clear-insns r) (read-insns Eax q)) (tt, tt))
-    ((tt, tt), tt))
+dividing-row : (above : Insn) (divide : Rm32 → Insn) (part : Reg32) (p q r : Place) → IsPlain (plain above)
+    → IsPlain (plain (divide (divisor_of r))) → IsPlainRow (dividing above divide part p q r)
+dividing-row above divide part p q r first last =
+    let upper : List Item = plain above ∷ [] in
+    let one : List Item = plain (divide (divisor_of r)) ∷ [] in
+    written-row (before_division above q r ++ one) p part
+    (row-behind IsPlain (before_division above q r) one
+    (all-append IsPlain (clear_divisor r ++ read Eax q) upper
+    (all-append IsPlain (clear_divisor r) (read Eax q) (clear-insns r) (read-insns Eax q)) (first, tt))
+    ((last, tt), tt))
 
 pub comparing-row : (p q : Place) → IsPlainRow (comparing p q)
 comparing-row (InWord r) q = operate-row alu.Cmp r q
@@ -500,6 +501,9 @@ pub straight-others : (insns : List Insn) → AllByRecursion IsStraight insns �
 straight-others [] h = tt
 straight-others (i ∷ insns) h = (straight-common i h.0, straight-others insns h.1)
 
+setting-row : (c : Cond) (p q r : Place) → IsOtherRow (setting c p q r)
+setting-row c p q r = compared-row q r (set_row c p) (plain-others (set_row c p) (set-insns c p))
+
 -- ---- of ops
 
 -- the op's row has a label, or moves on its way to a block
@@ -507,6 +511,7 @@ abbrev pub has_more : Op → Bool
 has_more (op.Clear k) = true
 has_more (op.Jump x) = true
 has_more (op.Branch how a b x y) = true
+has_more (op.Branchu how a b x y) = true
 has_more o = false
 
 -- the row of any other op but a mark and a turn has no NOP and no label
@@ -520,7 +525,10 @@ other-is flow placement p (op.Copy d s) straight none =
     (copy-row (place_before placement p s) (place_after placement p d))
 other-is flow placement p (op.Wide d s) straight none =
     plain-row (row flow placement p (op.Wide d s))
-    (widening-row (place_after placement p d) (place_before placement p s))
+    (widening-row insn.MovSx8 (place_after placement p d) (place_before placement p s) (λ t operand. tt))
+other-is flow placement p (op.Zero d s) straight none =
+    plain-row (row flow placement p (op.Zero d s))
+    (widening-row insn.MovZx8 (place_after placement p d) (place_before placement p s) (λ t operand. tt))
 other-is flow placement p (op.Low d s) straight none =
     plain-row (row flow placement p (op.Low d s))
     (lowering-row (place_after placement p d) (place_before placement p s))
@@ -557,16 +565,29 @@ other-is flow placement p (op.Shl d a b) straight none =
 other-is flow placement p (op.Sar d a b) straight none =
     plain-row (row flow placement p (op.Sar d a b))
     (shifting-row shift.Sar (place_after placement p d) (place_before placement p a) (place_before placement p b))
+other-is flow placement p (op.Shr d a b) straight none =
+    plain-row (row flow placement p (op.Shr d a b))
+    (shifting-row shift.Shr (place_after placement p d) (place_before placement p a) (place_before placement p b))
 other-is flow placement p (op.Div d a b) straight none =
     plain-row (row flow placement p (op.Div d a b))
-    (dividing-row Eax (place_after placement p d) (place_before placement p a) (place_before placement p b))
+    (dividing-row insn.Cdq insn.IDiv Eax (place_after placement p d) (place_before placement p a)
+    (place_before placement p b) tt tt)
 other-is flow placement p (op.Rem d a b) straight none =
     plain-row (row flow placement p (op.Rem d a b))
-    (dividing-row Edx (place_after placement p d) (place_before placement p a) (place_before placement p b))
+    (dividing-row insn.Cdq insn.IDiv Edx (place_after placement p d) (place_before placement p a)
+    (place_before placement p b) tt tt)
+other-is flow placement p (op.Udiv d a b) straight none =
+    plain-row (row flow placement p (op.Udiv d a b))
+    (dividing-row zero_edx insn.Div Eax (place_after placement p d) (place_before placement p a)
+    (place_before placement p b) tt tt)
+other-is flow placement p (op.Urem d a b) straight none =
+    plain-row (row flow placement p (op.Urem d a b))
+    (dividing-row zero_edx insn.Div Edx (place_after placement p d) (place_before placement p a)
+    (place_before placement p b) tt tt)
 other-is flow placement p (op.Set how d a b) straight none =
-    let set : List Item = set_row (cond_of how) (place_after placement p d) in
-    compared-row (place_before placement p a) (place_before placement p b) set
-    (plain-others set (set-insns (cond_of how) (place_after placement p d)))
+    setting-row (cond_of how) (place_after placement p d) (place_before placement p a) (place_before placement p b)
+other-is flow placement p (op.Setu how d a b) straight none =
+    setting-row (cond_of_order how) (place_after placement p d) (place_before placement p a) (place_before placement p b)
 other-is flow placement p (op.Param d k) straight none =
     let place : Place = place_after placement p d in
     let load : List Item = plain (insn.MovLoad (target_of place) (argument_word k)) ∷ [] in
@@ -586,6 +607,7 @@ other-is flow placement p (op.Mark s) straight none = absurd (let e : true ≡ f
 other-is flow placement p op.Turn straight none = absurd (let e : true ≡ false = none in cc)
 other-is flow placement p (op.Jump x) straight none = absurd (let e : true ≡ false = straight in cc)
 other-is flow placement p (op.Branch how a b x y) straight none = absurd (let e : true ≡ false = straight in cc)
+other-is flow placement p (op.Branchu how a b x y) straight none = absurd (let e : true ≡ false = straight in cc)
 other-is flow placement p (op.Frame d k) straight none =
     let place : Place = place_after placement p d in
     written-behind (plain (insn.Lea (target_of place) (below (slice_index_or placement.arrays k 0)))) place
@@ -605,6 +627,21 @@ other-is flow placement p (op.Return (Some a)) straight none =
 other-is flow placement p (op.Return None) straight none = plain-row leave leave-row
 other-is flow placement p (op.Clear k) straight none = absurd (let e : true ≡ false = straight in cc)
 
+branching-row : (flow : Flow) (placement : Placement) (p : ℕ) (c : Cond) (a b x y : ℕ)
+    → IsRow (branching c (loop_label flow p) (place_before placement p a) (place_before placement p b)
+    (moves_into flow placement p x) (moves_into flow placement p y) x y)
+branching-row flow placement p c a b x y =
+    let first : List Item = comparing (place_before placement p a) (place_before placement p b) in
+    let rest : List Item = choosing c (loop_label flow p) (moves_into flow placement p x) (moves_into flow placement p y) x
+    y in
+    let compared = other-row first (plain-row first (comparing-row (place_before placement p a)
+    (place_before placement p b))) in (
+      all-append IsRowItem first rest compared.0
+          (choosing-items c (loop_label flow p) x y (moves_into flow placement p x) (moves_into flow placement p y)
+          (moves-room placement p (slice_get (points_of flow x) 0)) (moves-room placement p (slice_get (points_of flow y) 0))),
+      begins-join first rest compared.1,
+    )
+
 -- an op's row is one
 pub row-is : (flow : Flow) (placement : Placement) (p : ℕ) (o : Op) → IsRow (row flow placement p o)
 row-is flow placement p (op.Mark s) = ((tt, tt), tt)
@@ -612,22 +649,21 @@ row-is flow placement p op.Turn = ((tt, tt), tt)
 row-is flow placement p (op.Clear k) = ((tt, (tt, (tt, (tt, (tt, (tt, (tt, tt))))))), tt)
 row-is flow placement p (op.Jump x) =
     jumping-row (moves_into flow placement p x) x (moves-room placement p (slice_get (points_of flow x) 0))
-row-is flow placement p (op.Branch how a b x y) =
-    let first : List Item = comparing (place_before placement p a) (place_before placement p b) in
-    let rest : List Item = choosing (cond_of how) (loop_label flow p) (moves_into flow placement p x)
-    (moves_into flow placement p y) x y in
-    let compared = other-row first (plain-row first (comparing-row (place_before placement p a)
-    (place_before placement p b))) in (
-      all-append IsRowItem first rest compared.0
-          (choosing-items (cond_of how) (loop_label flow p) x y (moves_into flow placement p x) (moves_into flow placement p y)
-          (moves-room placement p (slice_get (points_of flow x) 0)) (moves-room placement p (slice_get (points_of flow y) 0))),
-      begins-join first rest compared.1,
-    )
+row-is flow placement p (op.Branch how a b x y) = branching-row flow placement p (cond_of how) a b x y
+row-is flow placement p (op.Branchu how a b x y) = branching-row flow placement p (cond_of_order how) a b x y
 row-is flow placement p o = other-row (row flow placement p o) (other-is flow placement p o refl refl)
 
 -- the moves of a jump are no NOPs
 abbrev pub JumpsOverOthers : Flow → Placement → ℕ → Op → Type 0
 JumpsOverOthers flow placement p o = (x : ℕ) → o ≡ op.Jump x → AreOthers (moves_into flow placement p x)
+
+-- what begins with a comparison
+comparison-begins : (p q : Place) (items : List Item) → BeginsWithOther (comparing p q ++ items)
+comparison-begins p q items = first-joined (comparing p q) items (plain-row (comparing p q) (comparing-row p q))
+  where
+    first-joined : (xs ys : List Item) → IsOtherRow xs → BeginsWithOther (xs ++ ys)
+    first-joined [] ys h = absurd h.1
+    first-joined (x ∷ xs) ys h = h.0.0
 
 -- that of a mark or a turn is a NOP, and that of any other op begins with another instruction
 pub other-begins : (flow : Flow) (placement : Placement) (p : ℕ) (o : Op) → is_nop (Some o) ≡ false
@@ -639,13 +675,9 @@ other-begins flow placement p (op.Jump x) none moves =
     other-first (row flow placement p (op.Jump x))
     (row-behind IsOther (moves_into flow placement p x) (item.JumpTo x ∷ []) (moves x refl) ((tt, tt), tt))
 other-begins flow placement p (op.Branch how a b x y) none moves =
-    first-joined (comparing (place_before placement p a) (place_before placement p b)) _
-    (plain-row (comparing (place_before placement p a) (place_before placement p b))
-    (comparing-row (place_before placement p a) (place_before placement p b)))
-  where
-    first-joined : (xs ys : List Item) → IsOtherRow xs → BeginsWithOther (xs ++ ys)
-    first-joined [] ys h = absurd h.1
-    first-joined (x ∷ xs) ys h = h.0.0
+    comparison-begins (place_before placement p a) (place_before placement p b) _
+other-begins flow placement p (op.Branchu how a b x y) none moves =
+    comparison-begins (place_before placement p a) (place_before placement p b) _
 other-begins flow placement p o none moves =
     other-first (row flow placement p o) (other-is flow placement p o refl refl)
 

@@ -26,3 +26,5 @@ pub mod Putchar
 pub mod Ending
 pub mod Prologue
 pub mod First
+pub mod Lowest
+pub mod Small

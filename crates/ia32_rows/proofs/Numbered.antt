@@ -22,8 +22,8 @@ use Rattle.flow_graph.proofs.Points.{every-in, every-without, distinct-without, 
 use Rattle.ia32_rows.specs.Placements.{Placement, below}
 use Rattle.ia32_rows.specs.Once.{LabelsStandOnce, PointsArePlaced, PointsStandOnce}
 use Rattle.ia32_rows.specs.Filling.{fill}
-use Rattle.ia32_rows.specs.Rows.{block_rows, choosing, comparing, cond_of, entry_label, headers, jumping, loop_label}
-use Rattle.ia32_rows.specs.Rows.{moves_into, moves_to, place_before, point_rows, prologue, row, selected}
+use Rattle.ia32_rows.specs.Rows.{block_rows, branching, choosing, comparing, cond_of, cond_of_order, entry_label}
+use Rattle.ia32_rows.specs.Rows.{headers, jumping, loop_label, moves_into, moves_to, place_before, point_rows, prologue, row, selected}
 use Rattle.ia32_rows.proofs.ItemKinds.{IsOther, IsRowItem, comparing-row, either-way, other-is, plain-others, row-is}
 
 -- ---- numbers of items
@@ -164,6 +164,23 @@ choosing-labels c detour taken other (x ∷ xs) moves a b =
     ∙ ap (λ (ns : List ℕ). ns ++ (detour ∷ numbers label_of (jumping (x ∷ xs) taken))) (jumping-labels moves other b)
     ∙ ap (λ (ns : List ℕ). detour ∷ ns) (jumping-labels (x ∷ xs) taken a))
 
+branching-labels : (flow : Flow) (placement : Placement) (p : ℕ) (c : Cond) (a b x y : ℕ)
+    → let items : List Item = branching c (loop_label flow p) (place_before placement p a) (place_before placement p b)
+    (moves_into flow placement p x) (moves_into flow placement p y) x y in
+    (numbers label_of items ≡ []) ⊎ (numbers label_of items ≡ loop_label flow p ∷ [])
+branching-labels flow placement p c a b x y =
+    let first : List Item = comparing (place_before placement p a) (place_before placement p b) in
+    let rest : List Item = choosing c (loop_label flow p) (moves_into flow placement p x) (moves_into flow placement p y) x
+    y in
+    let none : numbers label_of (first ++ rest) ≡ numbers label_of rest =
+    numbers-append label_of first rest ∙ ap (λ (ns : List ℕ). ns ++ numbers label_of rest)
+    (others-labels first (plain-others first (comparing-row (place_before placement p a)
+    (place_before placement p b)).0)) in
+    subst (λ (ns : List ℕ). (ns ≡ []) ⊎ (ns ≡ loop_label flow p ∷ [])) (sym none)
+    (choosing-labels c (loop_label flow p) x y (moves_into flow placement p x) (moves_into flow placement p y)
+    (moves-labels placement p (slice_get (points_of flow x) 0))
+    (moves-labels placement p (slice_get (points_of flow y) 0)))
+
 -- a row has no label, or its loop's or detour's alone
 row-labels : (flow : Flow) (placement : Placement) (p : ℕ) (o : Op)
     → (numbers label_of (row flow placement p o) ≡ [])
@@ -173,19 +190,8 @@ row-labels flow placement p op.Turn = inl refl
 row-labels flow placement p (op.Clear k) = inr refl
 row-labels flow placement p (op.Jump x) =
     inl (jumping-labels (moves_into flow placement p x) x (moves-labels placement p (slice_get (points_of flow x) 0)))
-row-labels flow placement p (op.Branch how a b x y) =
-    let first : List Item = comparing (place_before placement p a) (place_before placement p b) in
-    let rest : List Item = choosing (cond_of how) (loop_label flow p) (moves_into flow placement p x)
-    (moves_into flow placement p y) x y in
-    let none : numbers label_of (first ++ rest) ≡ numbers label_of rest =
-    numbers-append label_of first rest ∙ ap (λ (ns : List ℕ). ns ++ numbers label_of rest)
-    (others-labels first (plain-others first (comparing-row (place_before placement p a)
-    (place_before placement p b)).0)) in
-    subst (λ (ns : List ℕ). (ns ≡ []) ⊎ (ns ≡ loop_label flow p ∷ [])) (sym none)
-    (choosing-labels (cond_of how) (loop_label flow p) x y (moves_into flow placement p x)
-    (moves_into flow placement p y)
-    (moves-labels placement p (slice_get (points_of flow x) 0))
-    (moves-labels placement p (slice_get (points_of flow y) 0)))
+row-labels flow placement p (op.Branch how a b x y) = branching-labels flow placement p (cond_of how) a b x y
+row-labels flow placement p (op.Branchu how a b x y) = branching-labels flow placement p (cond_of_order how) a b x y
 row-labels flow placement p o =
     inl (others-labels (row flow placement p o) (other-is flow placement p o refl refl).0)
 

@@ -14,7 +14,6 @@ use Rattle.ia32_insn.specs.State.{State}
 use Rattle.ia32_insn.specs.Meaning.{and_then, address_of, load, word_of, with_word}
 use Rattle.ia32_insn.specs.Keeps.{AreDisjoint}
 use Rattle.ia32_insn.specs.Items.{near, plain, putchar_items}
-use Rattle.ia32_rows.specs.Placements.{below}
 use Rattle.ia32_rows.proofs.Sound.{load-same, word-below}
 use Rattle.ia32_rows.proofs.Steps.{IsAt, Comes, comes-then}
 use Rattle.ia32_rows.proofs.Sets.{ready-from, disjoint-part, unlike, Sets, set-goes}

@@ -20,6 +20,7 @@ use Rattle.ia32_insn.proofs.Access.{load-elsewhere, load-stored, store-keeps_res
 use Rattle.ia32_insn.proofs.Memory.{inside, load-store_same}
 use Rattle.ia32_insn.proofs.Splices.{length-replaced}
 use Rattle.ia32_rows.specs.Sites.{data_from, IsSound}
+use Rattle.ia32_rows.proofs.Small.{replaced-small}
 
 -- ---- loads
 
@@ -166,6 +167,7 @@ store-in text low high a value s h from to fits =
       size = ap (λ (k : ℕ). low + k) long ∙ size;
       above = h.above;
       below = h.below;
+      small = replaced-small (a - low) 4 value (a - low + length new) h.bytes h.small;
       registers = h.registers;
     } in
     let old = load-in text low high 4 a s h from to in
@@ -212,8 +214,8 @@ sound-with_word text low high r v s h =
       size = h.size;
       above = h.above;
       below = h.below;
-      registers =
-          AreRegisters-with_register r v s.registers h.registers;
+      small = h.small;
+      registers = AreRegisters-with_register r v s.registers h.registers;
     }
 
 pub word-same : (text : List ℕ) (low high : ℕ) (r : Reg32) (v : ℕ) (s : State) → IsSound text low high s → v < 2 ^ 32
@@ -240,8 +242,8 @@ sound-at text low high address s h =
       size = h.size;
       above = h.above;
       below = h.below;
-      registers =
-          h.registers;
+      small = h.small;
+      registers = h.registers;
     }
 
 -- and with other flags
@@ -254,6 +256,6 @@ sound-with_flags text low high flags s h =
       size = h.size;
       above = h.above;
       below = h.below;
-      registers =
-          h.registers;
+      small = h.small;
+      registers = h.registers;
     }

@@ -2,6 +2,7 @@
 use Rattle.std.proofs.Common.{◌≡◌, ℕ, ◌^◌, ◌<◌, ◌≤◌, [], ◌∷◌, ◌++◌, Option, None, refl, Ok, ◌-◌}
 use Rattle.std.proofs.Common.{subst, ap, arith}
 use Rattle.pcc_base.specs.declared.run.Width.TheVariants.{One, Two}
+use Rattle.ia32_insn.specs.declared.register_names.Reg8.{Reg8}
 use Rattle.ia32_insn.specs.declared.register_names.Reg32.{Reg32}
 use Rattle.ia32_insn.specs.declared.register_names.Reg32.TheVariants.{Esp, Ebp}
 use Rattle.ia32_insn.specs.Places.{Place, InWord, InByte, InSlot}
@@ -12,7 +13,7 @@ use Rattle.ia32_insn.specs.declared.insn.Insn.{Insn}
 use Rattle.ia32_insn.specs.declared.insn.Insn.TheVariants as insn
 use Rattle.ia32_insn.specs.State.{State, at_address}
 use Rattle.ia32_insn.specs.Arithmetic.{complement, extended8, negation}
-use Rattle.ia32_insn.specs.Meaning.{and_then, address_of, load, word_of, with_word}
+use Rattle.ia32_insn.specs.Meaning.{and_then, address_of, byte_of, load, word_of, with_word}
 use Rattle.ia32_insn.specs.Items.{plain}
 use Rattle.std.specs.Prelude.{Result}
 use Rattle.std.proofs.lemmas.Int.{ints}
@@ -25,7 +26,7 @@ use Rattle.ia32_rows.specs.Rows.{extend, read, target_of, write}
 use Rattle.ia32_rows.specs.Effects.{Makes, Keeps, OutsideWord}
 use Rattle.ia32_rows.specs.Contains.{Contains, HoldsWord, IsPlaceIn}
 use Rattle.ia32_rows.specs.Laws.{Gives, IsWorking, Puts}
-use Rattle.ia32_rows.specs.Unary.{ComplementPuts, ExtensionPuts, NegationPuts}
+use Rattle.ia32_rows.specs.Unary.{ComplementPuts, ExtensionPuts, NegationPuts, ZeroExtensionPuts}
 use Rattle.ia32_rows.proofs.Kept.{framed-kept, other-cells, result-keeps}
 use Rattle.ia32_rows.proofs.Instructions.{below-loaded, result-makes}
 use Rattle.ia32_rows.proofs.Moves.{extend-gives, read-gives}
@@ -124,7 +125,7 @@ extended-small b h = grind (arith, ints)
 
 extend-gives-any : (site : Site) (frame : ℕ) (t : Reg32) (q : Place) (b : ℕ) (s : State) → Framed site frame s
     → IsWorking t → IsPlaceIn frame q → Contains s One q b → b < 256
-    → (u : State) × Gives site frame (extend t q) t (extended8 b) s u
+    → (u : State) × Gives site frame (extend insn.MovSx8 t q) t (extended8 b) s u
 extend-gives-any site frame t (InWord r) b s framed works placed contains small = absurd contains
 extend-gives-any site frame t (InByte r) b s framed works placed contains small =
     extend-gives site frame t r b s framed works contains small
@@ -136,5 +137,43 @@ extend-gives-any site frame t (InSlot k) b s framed works placed contains small 
 
 pub extension-puts : ExtensionPuts
 extension-puts site frame p q b s framed room to placed contains small =
-    target-puts site frame (extend (target_of p) q) p (extended8 b) s room to
+    target-puts site frame (extend insn.MovSx8 (target_of p) q) p (extended8 b) s room to
     (extend-gives-any site frame (target_of p) q b s framed (target-works frame p to) placed contains small)
+
+-- ---- bytes with zero bits above them
+
+zero-makes : (site : Site) (r : Reg32) (q : Reg8) (s : State) → SoundAt site s
+    → Makes site (insn.MovZx8 r (rm8.Reg q)) s (with_result r (byte_of q s) s.flags s)
+zero-makes site r q s sound =
+    record { straight = tt; does = λ address. refl; sound = result-makes site r (byte_of q s) s.flags s sound }
+
+zero_slot-makes : (site : Site) (frame : ℕ) (r : Reg32) (k v : ℕ) (s : State) → Framed site frame s → 0 < k
+    → k ≤ frame → load 1 (word_of Ebp s - k) s ≡ Ok v
+    → Makes site (insn.MovZx8 r (rm8.Mem (below k))) s (with_result r v s.flags s)
+zero_slot-makes site frame r k v s framed some within held =
+    let loaded = below-loaded site frame k 1 v s framed some within held in
+    record {
+      straight = tt;
+      does = λ address. ap (λ (x : Result ℕ End). and_then x
+          (λ value. let q : Result State End = Ok (with_word r value (at_address address s)) in q))
+          (load-same 1 (address_of (below k) s) v s (at_address address s) refl loaded);
+      sound = result-makes site r v s.flags s framed.sound;
+    }
+
+zero-gives : (site : Site) (frame : ℕ) (t : Reg32) (q : Place) (b : ℕ) (s : State) → Framed site frame s
+    → IsWorking t → IsPlaceIn frame q → Contains s One q b → b < 256
+    → (u : State) × Gives site frame (extend insn.MovZx8 t q) t b s u
+zero-gives site frame t (InWord r) b s framed works placed contains small = absurd contains
+zero-gives site frame t (InByte r) b s framed works placed contains small =
+    gives-flagged site frame (insn.MovZx8 t (rm8.Reg r)) t b s.flags s framed works (omega (arith, small))
+    (subst (λ (v : ℕ). Makes site (insn.MovZx8 t (rm8.Reg r)) s (with_result t v s.flags s)) contains
+    (zero-makes site t r s framed.sound))
+zero-gives site frame t (InSlot k) b s framed works placed contains small =
+    let low = placed.low in
+    gives-flagged site frame (insn.MovZx8 t (rm8.Mem (below k))) t b s.flags s framed works (omega (arith, small))
+    (zero_slot-makes site frame t k b s framed (omega arith) placed.high contains)
+
+pub zero_extension-puts : ZeroExtensionPuts
+zero_extension-puts site frame p q b s framed room to placed contains small =
+    target-puts site frame (extend insn.MovZx8 (target_of p) q) p b s room to
+    (zero-gives site frame (target_of p) q b s framed (target-works frame p to) placed contains small)

@@ -9,6 +9,7 @@ use Rattle.ia32_insn.specs.Registers.{number32, number8}
 use Rattle.ia32_insn.specs.Places.{Place, InWord, InByte, InSlot}
 use Rattle.ia32_insn.specs.declared.operand.Rm32.{Rm32}
 use Rattle.ia32_insn.specs.declared.operand.Rm32.TheVariants as rm
+use Rattle.ia32_insn.specs.declared.operand.Rm8.{Rm8}
 use Rattle.ia32_insn.specs.declared.operand.Rm8.TheVariants as rm8
 use Rattle.ia32_insn.specs.declared.insn.AluOp.TheVariants as alu
 use Rattle.ia32_insn.specs.declared.insn.Cond.{Cond}
@@ -21,6 +22,8 @@ use Rattle.ia32_insn.specs.declared.item.Item.TheVariants as item
 use Rattle.ia32_insn.specs.Items.{plain}
 use Rattle.flow_graph.specs.declared.op.Comparison.{Comparison}
 use Rattle.flow_graph.specs.declared.op.Comparison.TheVariants.{Eq, Ne, Lt, Le, Gt, Ge}
+use Rattle.flow_graph.specs.declared.op.Order.{Order}
+use Rattle.flow_graph.specs.declared.op.Order.TheVariants as order
 use Rattle.ia32_rows.specs.Placements.{below}
 use Rattle.ia32_rows.specs.Moves.{copy_row, is_in, operate, read, target_of, working, write}
 
@@ -63,29 +66,33 @@ low_byte Ebp = Al
 low_byte Esi = Al
 low_byte Edi = Al
 
--- MOVSX of the byte of a place to a register
-abbrev pub extend : Reg32 → Place → List Item
-extend t (InWord r) = plain (insn.MovSx8 t (rm8.Reg (low_byte r))) ∷ []
-extend t (InByte r) = plain (insn.MovSx8 t (rm8.Reg r)) ∷ []
-extend t (InSlot k) = plain (insn.MovSx8 t (rm8.Mem (below k))) ∷ []
+-- the byte of a place, or the lowest one
+abbrev pub byte_operand : Place → Rm8
+byte_operand (InWord r) = rm8.Reg (low_byte r)
+byte_operand (InByte r) = rm8.Reg r
+byte_operand (InSlot k) = rm8.Mem (below k)
 
--- the byte with its sign to the row's register, and that to its place, unless it is there
-abbrev pub widening : Place → Place → List Item
-widening result operand = extend (target_of result) operand ++ write result (target_of result)
+-- the byte of a place to a register, with its sign by MOVSX or with zero bits by MOVZX
+abbrev pub extend : (Reg32 → Rm8 → Insn) → Reg32 → Place → List Item
+extend how t operand = plain (how t (byte_operand operand)) ∷ []
+
+-- the byte so extended to the row's register, and that to its place, unless it is there
+abbrev pub widening : (Reg32 → Rm8 → Insn) → Place → Place → List Item
+widening how result operand = extend how (target_of result) operand ++ write result (target_of result)
 
 -- the low byte of the operand's word to the result
 abbrev pub lowering : Place → Place → List Item
 lowering (InWord r) operand = copy_row operand (InWord r)
 lowering (InByte r) (InWord q) = copy_row (InByte (low_byte q)) (InByte r)
 lowering (InByte r) (InByte q) = copy_row (InByte q) (InByte r)
-lowering (InByte r) (InSlot k) = read Esi (InSlot k) ++ write (InByte r) Esi
+lowering (InByte r) (InSlot k) = plain (insn.Mov8Load r (below k)) ∷ []
 lowering (InSlot k) operand = copy_row operand (InSlot k)
 
 -- MOVSX of the low 16 bits of a place's word to a register
 abbrev pub extend_half : Reg32 → Place → List Item
 extend_half t (InWord r) = plain (insn.MovSx16 t (rm.Reg r)) ∷ []
 extend_half t (InByte r) = read t (InByte r) ++ plain (insn.MovSx16 t (rm.Reg t)) ∷ []
-extend_half t (InSlot k) = read t (InSlot k) ++ plain (insn.MovSx16 t (rm.Reg t)) ∷ []
+extend_half t (InSlot k) = plain (insn.MovSx16 t (rm.Mem (below k))) ∷ []
 
 -- these 16 bits with their sign to the result
 abbrev pub halving : Place → Place → List Item
@@ -130,14 +137,20 @@ divisor_of (InWord r) =
 divisor_of (InByte r) = rm.Reg Esi
 divisor_of (InSlot k) = rm.Mem (below k)
 
--- what stands before the division: the divisor out of the way, the first operand to EAX, and its sign to EDX
-abbrev pub before_division : Place → Place → List Item
-before_division first second = clear_divisor second ++ read Eax first ++ plain insn.Cdq ∷ []
+-- what makes the upper word of a dividend without sign: XOR of EDX with itself (Intel manual, volume 2, XOR)
+abbrev pub zero_edx : Insn
+zero_edx = insn.Alu alu.Xor (rm.Reg Edx) Edx
 
--- the division (Intel manual, volume 2, CDQ and IDIV); the quotient, in EAX, or the remainder, in EDX, to the result
-abbrev pub dividing : Reg32 → Place → Place → Place → List Item
-dividing part result first second =
-    before_division first second ++ plain (insn.IDiv (divisor_of second)) ∷ [] ++ write result part
+-- what stands before the division: the divisor out of the way, the first operand to EAX, and the upper word of the
+-- dividend to EDX
+abbrev pub before_division : Insn → Place → Place → List Item
+before_division upper first second = clear_divisor second ++ read Eax first ++ plain upper ∷ []
+
+-- the division (Intel manual, volume 2, CDQ and IDIV; DIV with zero above); the quotient, in EAX, or the remainder, in
+-- EDX, to the result
+abbrev pub dividing : Insn → (Rm32 → Insn) → Reg32 → Place → Place → Place → List Item
+dividing upper divide part result first second =
+    before_division upper first second ++ plain (divide (divisor_of second)) ∷ [] ++ write result part
 
 -- ---- comparisons
 
@@ -149,6 +162,13 @@ cond_of Lt = cond.L
 cond_of Le = cond.Le
 cond_of Gt = cond.G
 cond_of Ge = cond.Ge
+
+-- the condition of a comparison without sign
+abbrev pub cond_of_order : Order → Cond
+cond_of_order order.Lt = cond.B
+cond_of_order order.Le = cond.Be
+cond_of_order order.Gt = cond.A
+cond_of_order order.Ge = cond.Ae
 
 -- CMP of two words where they stand; the first through ESI where both are in memory
 abbrev pub comparing : Place → Place → List Item
@@ -169,9 +189,9 @@ set_row c (InSlot k) =
     ∷ plain (insn.Mov (rm.Mem (below k)) Esi)
     ∷ []
 
--- whether two words, as signed numbers, compare so
-abbrev pub setting : Comparison → Place → Place → Place → List Item
-setting how result first second = comparing first second ++ set_row (cond_of how) result
+-- whether two words compare so
+abbrev pub setting : Cond → Place → Place → Place → List Item
+setting c result first second = comparing first second ++ set_row c result
 
 -- to a label, through the moves on the way there
 abbrev pub jumping : List Item → ℕ → List Item
@@ -185,9 +205,9 @@ choosing c detour (move ∷ first) moves taken other =
     item.JumpIf c detour ∷ jumping moves other ++ item.Label detour ∷ jumping (move ∷ first) taken
 
 -- to one label where two words compare so, to the other where they don't
-abbrev pub branching : Comparison → ℕ → Place → Place → List Item → List Item → ℕ → ℕ → List Item
-branching how detour first second to_taken to_other taken other =
-    comparing first second ++ choosing (cond_of how) detour to_taken to_other taken other
+abbrev pub branching : Cond → ℕ → Place → Place → List Item → List Item → ℕ → ℕ → List Item
+branching c detour first second to_taken to_other taken other =
+    comparing first second ++ choosing c detour to_taken to_other taken other
 
 -- the trap of a failed check, unless two words are the same
 abbrev pub same_row : Place → Place → List Item

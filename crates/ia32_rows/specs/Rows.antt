@@ -17,9 +17,11 @@ use Rattle.ia32_rows.specs.Placements.{Placement}
 pub use Rattle.ia32_rows.specs.Moves.{scratch, is_in, is_at, read, write, operate, working, has_operand, target_of}
 pub use Rattle.ia32_rows.specs.Moves.{number_row, copy_row, by_register, in_slot, operation, commuting, sum_of, adding}
 pub use Rattle.ia32_rows.specs.Moves.{pass}
-pub use Rattle.ia32_rows.specs.Computing.{multiply, product_of, multiplying, changing, low_byte, extend, widening, lowering}
+pub use Rattle.ia32_rows.specs.Computing.{multiply, product_of, multiplying, changing, low_byte, byte_operand, extend}
+pub use Rattle.ia32_rows.specs.Computing.{widening, lowering}
 pub use Rattle.ia32_rows.specs.Computing.{extend_half, halving, into_count, shifted_in, shifting, clear_divisor}
-pub use Rattle.ia32_rows.specs.Computing.{divisor_of, before_division, dividing, cond_of, comparing, set_row, setting}
+pub use Rattle.ia32_rows.specs.Computing.{divisor_of, zero_edx, before_division, dividing, cond_of, cond_of_order}
+pub use Rattle.ia32_rows.specs.Computing.{comparing, set_row, setting}
 pub use Rattle.ia32_rows.specs.Computing.{branching, choosing, jumping, same_row}
 pub use Rattle.ia32_rows.specs.Passing.{putchar_row, getchar_row, exit_row, argument_word, param_row, pass_all}
 pub use Rattle.ia32_rows.specs.Passing.{depth_number, deepen, undeepen, drop_words, write_any, before_call}
@@ -42,7 +44,10 @@ AreApart first second = (first + 4 ≤ second) ⊎ (second + 4 ≤ first)
 abbrev pub items_between : ℕ → (ℕ → List Item) → List (ℕ × ℕ) → List ℕ → (ℕ → Place) → (ℕ → Place) → Op → List Item
 items_between label moves arrays distances before after (op.Const d n) = number_row (after d) n
 items_between label moves arrays distances before after (op.Copy d s) = copy_row (before s) (after d)
-items_between label moves arrays distances before after (op.Wide d s) = widening (after d) (before s)
+items_between label moves arrays distances before after (op.Wide d s) =
+    widening insn.MovSx8 (after d) (before s)
+items_between label moves arrays distances before after (op.Zero d s) =
+    widening insn.MovZx8 (after d) (before s)
 items_between label moves arrays distances before after (op.Low d s) = lowering (after d) (before s)
 items_between label moves arrays distances before after (op.Low16 d s) = halving (after d) (before s)
 items_between label moves arrays distances before after (op.Neg d s) = changing insn.Neg (after d) (before s)
@@ -60,9 +65,20 @@ items_between label moves arrays distances before after (op.Shl d a c) =
     shifting shift.Shl (after d) (before a) (before c)
 items_between label moves arrays distances before after (op.Sar d a c) =
     shifting shift.Sar (after d) (before a) (before c)
-items_between label moves arrays distances before after (op.Div d a b) = dividing Eax (after d) (before a) (before b)
-items_between label moves arrays distances before after (op.Rem d a b) = dividing Edx (after d) (before a) (before b)
-items_between label moves arrays distances before after (op.Set how d a b) = setting how (after d) (before a) (before b)
+items_between label moves arrays distances before after (op.Shr d a c) =
+    shifting shift.Shr (after d) (before a) (before c)
+items_between label moves arrays distances before after (op.Div d a b) =
+    dividing insn.Cdq insn.IDiv Eax (after d) (before a) (before b)
+items_between label moves arrays distances before after (op.Rem d a b) =
+    dividing insn.Cdq insn.IDiv Edx (after d) (before a) (before b)
+items_between label moves arrays distances before after (op.Udiv d a b) =
+    dividing zero_edx insn.Div Eax (after d) (before a) (before b)
+items_between label moves arrays distances before after (op.Urem d a b) =
+    dividing zero_edx insn.Div Edx (after d) (before a) (before b)
+items_between label moves arrays distances before after (op.Set how d a b) =
+    setting (cond_of how) (after d) (before a) (before b)
+items_between label moves arrays distances before after (op.Setu how d a b) =
+    setting (cond_of_order how) (after d) (before a) (before b)
 items_between label moves arrays distances before after (op.Param d k) = param_row (after d) k
 items_between label moves arrays distances before after (op.Call d f arguments) =
     call_row (option_map after d) f (map before arguments)
@@ -74,7 +90,9 @@ items_between label moves arrays distances before after (op.Mark s) = plain insn
 items_between label moves arrays distances before after op.Turn = plain insn.Nop ∷ []
 items_between label moves arrays distances before after (op.Jump x) = jumping (moves x) x
 items_between label moves arrays distances before after (op.Branch how a b x y) =
-    branching how label (before a) (before b) (moves x) (moves y) x y
+    branching (cond_of how) label (before a) (before b) (moves x) (moves y) x y
+items_between label moves arrays distances before after (op.Branchu how a b x y) =
+    branching (cond_of_order how) label (before a) (before b) (moves x) (moves y) x y
 items_between label moves arrays distances before after (op.Return (Some a)) = return_row (before a)
 items_between label moves arrays distances before after (op.Return None) = leave
 items_between label moves arrays distances before after (op.Frame d k) =

@@ -1,5 +1,6 @@
 -- Where code and data of a function stand, and what is known of a state within it.
 use Rattle.std.specs.Prelude.{◌≡◌, ℕ, ◌+◌, ◌<◌, ◌≤◌, ⊤, true, false, List, [], ◌∷◌, length, Ok}
+use Rattle.pcc_base.specs.Bytes.{AreBytes}
 use Rattle.ia32_insn.specs.declared.register_names.Reg32.TheVariants.{Esp, Ebp}
 use Rattle.ia32_insn.specs.Registers.{AreRegisters}
 use Rattle.ia32_insn.specs.declared.item.Item.{Item}
@@ -15,13 +16,14 @@ use Rattle.ia32_rows.specs.Paths.{IsAt, Comes}
 abbrev pub data_from : ℕ → List ℕ → Area
 data_from low bytes = record { address = low; bytes = bytes; readable = true; writable = true; runnable = false }
 
--- memory is the text and the data between two addresses, and the registers are registers
+-- memory is the text and the data between two addresses, whose bytes are bytes, and the registers are registers
 pub record IsSound (text : List ℕ) (low high : ℕ) (s : State) : Type 0 where
   pub bytes : List ℕ
   pub memory : s.memory ≡ text_area text ∷ data_from low bytes ∷ []
   pub size : low + length bytes ≡ high
   pub above : text_start + length text ≤ low
   pub below : high < 0x1_0000_0000
+  pub small : AreBytes bytes
   pub registers : AreRegisters s.registers
 
 -- ---- items at EIP

@@ -1,7 +1,7 @@
 ghost use Rattle.ia32_rows.specs.Laws.{StraightGoes, ReadGives, OperateGives, WritePuts, NumberPuts, CopyPuts};
 ghost use Rattle.ia32_rows.specs.Laws.{ExtendGives, CopyBytePuts, CopyToSlotPuts, OperationPuts, CommutingPuts};
 ghost use Rattle.ia32_rows.specs.Laws.{SumPuts, OthersKept};
-ghost use Rattle.ia32_rows.specs.Unary.{NegationPuts, ComplementPuts, ExtensionPuts};
+ghost use Rattle.ia32_rows.specs.Unary.{NegationPuts, ComplementPuts, ExtensionPuts, LowestBytes, ZeroExtensionPuts};
 ghost use Rattle.ia32_rows.specs.Products.{ProductPuts};
 
 /// The machine goes through straight code that stands at EIP to what follows it.
@@ -32,11 +32,17 @@ pub fn rows_compute_words()
 {}
 
 /// The negation and the complement of the word of a place come to another, which may be the same; so does a byte with
-/// its sign.
+/// its sign, and with zero bits.
 pub fn rows_change_words()
     ensures negation { NegationPuts }
     ensures complement { ComplementPuts }
     ensures extension { ExtensionPuts }
+    ensures zero_extension { ZeroExtensionPuts }
+{}
+
+/// What loads of the lowest byte of a word below EBP, and of its lowest two bytes, give.
+pub fn words_have_bytes()
+    ensures { LowestBytes }
 {}
 
 /// A place that is apart from the one that a row writes contains what it did.

@@ -16,7 +16,7 @@ mod shows;
 pub use calls::{endings_halt, functions_are_entered};
 pub use effects::{
     other_places_are_kept, rows_change_words, rows_compute_words, rows_move_words,
-    straight_code_goes,
+    straight_code_goes, words_have_bytes,
 };
 pub use laws::{labels_and_points_stand_once, rows_are_short};
 pub use shows::{

@@ -1,4 +1,4 @@
-use Rattle.ia32_rows.proofs.Unary.{complement-puts, extension-puts, negation-puts}
+use Rattle.ia32_rows.proofs.Unary.{complement-puts, extension-puts, negation-puts, zero_extension-puts}
 use Rattle.ia32_rows.proofs.effects.rows_change_words.Goals as goal
 
 pub returns-clause-negation : goal.returns-clause-negation
@@ -9,3 +9,6 @@ returns-clause-complement c = complement-puts
 
 pub returns-clause-extension : goal.returns-clause-extension
 returns-clause-extension c = extension-puts
+
+pub returns-clause-zero_extension : goal.returns-clause-zero_extension
+returns-clause-zero_extension c = zero_extension-puts
