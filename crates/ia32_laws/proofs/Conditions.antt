@@ -245,19 +245,18 @@ set_slot-puts site frame c k b s framed room placed e =
 -- ---- after a comparison
 
 pub set-puts : SetPuts
-set-puts site frame how (InByte d) q r x y s framed room word to a a_placed b b_placed one two fits also = absurd word
-set-puts site frame how (InWord d) q r x y s framed room word to a a_placed b b_placed one two fits also =
+set-puts site frame c t (InByte d) q r x y s framed room word to a a_placed b b_placed one two fits decided =
+    absurd word
+set-puts site frame c t (InWord d) q r x y s framed room word to a a_placed b b_placed one two fits decided =
     let known = places-compare site frame q r x y s framed a a_placed b b_placed one two fits in
     let m : State = known.0 in
-    let decided = ap (holds (cond_of how)) known.1.flags ∙ comparison-decides how x y fits also in
-    let last = set_register-goes site frame (cond_of how) d (compared how (signed x) (signed y)) m known.1.framed to
-    decided in
+    let last = set_register-goes site frame c d t m known.1.framed to (ap (holds c) known.1.flags ∙ decided) in
     let u : State = last.0 in
     let S : ℕ → Type 0 = Untouched (InWord d) in
     let K : ℕ → ℕ → Type 0 = ApartFromPlace (word_of Ebp s) (InWord d) in (
       u,
       record {
-        leads = leads-join site (comparing q r) (set_row (cond_of how) (InWord d)) s m u known.1.leads last.1.leads;
+        leads = leads-join site (comparing q r) (set_row c (InWord d)) s m u known.1.leads last.1.leads;
         holds = last.2;
         framed = last.1.framed;
         keeps = keeps-then S K s m u
@@ -265,12 +264,10 @@ set-puts site frame how (InWord d) q r x y s framed room word to a a_placed b b_
             (keeps-stricter (OutsideWord d) S Anywhere K m u (λ k h. h.0) (λ j n l. tt) last.1.keeps);
       },
     )
-set-puts site frame how (InSlot d) q r x y s framed room word to a a_placed b b_placed one two fits also =
+set-puts site frame c t (InSlot d) q r x y s framed room word to a a_placed b b_placed one two fits decided =
     let known = places-compare site frame q r x y s framed a a_placed b b_placed one two fits in
     let m : State = known.0 in
-    let decided = ap (holds (cond_of how)) known.1.flags ∙ comparison-decides how x y fits also in
-    let last = set_slot-puts site frame (cond_of how) d (compared how (signed x) (signed y)) m known.1.framed room to
-    decided in
+    let last = set_slot-puts site frame c d t m known.1.framed room to (ap (holds c) known.1.flags ∙ decided) in
     let u : State = last.0 in
     let S : ℕ → Type 0 = Untouched (InSlot d) in
     let K : ℕ → ℕ → Type 0 = ApartFromPlace (word_of Ebp s) (InSlot d) in
@@ -278,7 +275,7 @@ set-puts site frame how (InSlot d) q r x y s framed room word to a a_placed b b_
     (other-cells Ebp Esi (λ e. omega arith)) in (
       u,
       record {
-        leads = leads-join site (comparing q r) (set_row (cond_of how) (InSlot d)) s m u known.1.leads last.1.leads;
+        leads = leads-join site (comparing q r) (set_row c (InSlot d)) s m u known.1.leads last.1.leads;
         holds = last.1.holds;
         framed = last.1.framed;
         keeps = keeps-then S K s m u
