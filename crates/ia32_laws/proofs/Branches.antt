@@ -6,18 +6,16 @@ use Rattle.ia32_insn.specs.declared.insn.Cond.{Cond}
 use Rattle.ia32_insn.specs.declared.item.Item.{Item}
 use Rattle.ia32_insn.specs.declared.item.Item.TheVariants as item
 use Rattle.ia32_insn.specs.State.{State, at_address}
-use Rattle.ia32_insn.specs.Arithmetic.{holds, signed}
-use Rattle.flow_graph.specs.Meaning.{compared}
+use Rattle.ia32_insn.specs.Arithmetic.{holds}
 use Rattle.ia32_rows.specs.Paths.{Comes}
 use Rattle.ia32_rows.specs.Sites.{ReadyAt, Site, SoundAt, StandsFrom}
 use Rattle.ia32_rows.proofs.Jumps.{branch-leads, branch-passes}
 use Rattle.ia32_rows.proofs.Sound.{sound-at}
 use Rattle.ia32_rows.proofs.Steps.{comes-then}
 use Rattle.ia32_rows.proofs.Straight.{straight-goes}
-use Rattle.ia32_rows.specs.Rows.{choosing, comparing, cond_of, jumping}
+use Rattle.ia32_rows.specs.Rows.{choosing, comparing, jumping}
 use Rattle.ia32_laws.specs.CoresLaws.{BranchGoes, IsOnTheWay}
 use Rattle.ia32_laws.proofs.Flags.{places-compare}
-use Rattle.ia32_laws.proofs.Numbers.{comparison-decides}
 
 -- items that are ready stand there
 ready-stands : (site : Site) (items : List Item) (s : State) → ReadyAt site items s → StandsFrom site items s.eip

@@ -22,7 +22,7 @@ use Rattle.ia32_rows.specs.Placements.{Code, objects_of}
 use Rattle.ia32_rows.proofs.Steps.{comes-then}
 use Rattle.ia32_rows.specs.Shows.{ArgumentsStand, ElementsStand, HoldsOldArrays, IsOldArray, ObjectsStand}
 use Rattle.ia32_laws.specs.Supports.{IsSupported}
-use Rattle.ia32_laws.proofs.Memory.{shapes-are, text-is}
+use Rattle.ia32_laws.proofs.Memory.{shapes-are, small-is, text-is}
 use Rattle.ia32_laws.proofs.Objects.{object-in}
 use Rattle.ia32_laws.proofs.Functions.{function-stands}
 use Rattle.ia32_laws.specs.Called.{Called}
@@ -147,6 +147,7 @@ called code input point address t supported first named h =
       placed = first-in point (points_of (flow_at code.program code.program.main) 0) first;
       shapes = shapes-are code.text (objects_of code.program) t.memory sound.bytes sound.memory sound.size;
       text = text-is code.text t.memory (data_start code.text) sound.bytes sound.memory;
+      small = small-is code.text (data_start code.text) sound.bytes t.memory sound.memory sound.small;
       room = roomy (stack_end code.text (objects_of code.program)) (word_of Esp t - 4) (word_of Esp t) above h.esp;
       few = omega arith;
       depth = h.depth;

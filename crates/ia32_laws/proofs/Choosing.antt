@@ -1,9 +1,7 @@
 -- The machine follows a branch on a comparison of two numbers.
-use Rattle.std.proofs.Common.{◌≡◌, ℕ, Bool, true, false, ℤ, List, ◌∷◌, ◌++◌, Option, Some, None}
+use Rattle.std.proofs.Common.{◌≡◌, ℕ, Bool, true, false, List, ◌∷◌, ◌++◌, Option, Some, None}
 use Rattle.std.proofs.Common.{inl, inr, refl, sym, ap, subst, ◌∙◌, append_assoc, arith}
-use Rattle.std.specs.Prelude.{drop, slice_get, unwrap_or, if◌then◌else◌, []}
-use Rattle.std.specs.Int.{w32, cast_unsigned}
-use Rattle.std.proofs.lemmas.Int.{to_z-of_z}
+use Rattle.std.specs.Prelude.{drop, slice_get, if◌then◌else◌, []}
 use Rattle.std.proofs.lemmas.Option.{none-some, same_Some}
 use Rattle.ia32_insn.specs.declared.register_names.Reg32.TheVariants.{Esp, Ebp, Esi}
 use Rattle.ia32_insn.specs.Places.{Place, InWord, InByte, InSlot}
@@ -11,17 +9,15 @@ use Rattle.ia32_insn.specs.declared.item.Item.{Item}
 use Rattle.ia32_insn.specs.declared.item.Item.TheVariants as item
 use Rattle.ia32_insn.specs.State as machine
 use Rattle.ia32_insn.specs.State.{at_address}
-use Rattle.ia32_insn.specs.Arithmetic.{signed}
 use Rattle.ia32_insn.specs.Meaning.{word_of}
 use Rattle.flow_graph.specs.declared.op.Op.{Op}
 use Rattle.flow_graph.specs.declared.op.Op.TheVariants as op
-use Rattle.flow_graph.specs.Graphs.{FitsOp, IsIn, points_of}
+use Rattle.flow_graph.specs.Graphs.{IsIn, points_of}
 use Rattle.flow_graph.specs.Liveness.{BeginsWith, LeadsTo, defined}
-use Rattle.flow_graph.specs.Meaning.{Moved, arrays_compared, at_point, both, compared, first_of, given, into_block}
+use Rattle.flow_graph.specs.Meaning.{at_point, into_block}
 use Rattle.flow_graph.specs.States as graph
 use Rattle.flow_graph.specs.States.{array_at, entry_of, flow_at, number_at, op_at, value_at}
 use Rattle.flow_graph.specs.WellFormed.{IsState}
-use Rattle.flow_graph.proofs.Values.{number-is}
 use Rattle.ia32_rows.specs.Follows.{ComesTo}
 use Rattle.ia32_laws.specs.CoresLaws.{IsOnTheWay}
 use Rattle.ia32_laws.specs.KeepsLaws.{moved_to}
@@ -40,16 +36,12 @@ use Rattle.ia32_rows.proofs.Kept.{PlaceHasCells, PlaceHasMemory, contains-kept, 
 use Rattle.ia32_rows.proofs.Moves.{byte-below, general-below}
 use Rattle.ia32_laws.specs.Supports.{IsSupported, site_of}
 use Rattle.ia32_laws.specs.Protected.{KeepsShown}
-use Rattle.ia32_laws.specs.KeepsOps.{before_at}
 use Rattle.ia32_laws.proofs.Shown.{moved-shows, point-supported}
 use Rattle.ia32_laws.proofs.Zones.{shown-in-frame}
 use Rattle.ia32_laws.proofs.Elsewhere.{at-own-address, keeps-at}
-use Rattle.ia32_laws.proofs.Words.{word-fits}
-use Rattle.ia32_laws.proofs.Ops.{HasNumber, has-number, op-is}
-use Rattle.ia32_rows.specs.Rows.{branching, jumping, loop_label, moves_into, moves_to}
-use Rattle.ia32_laws.specs.CoresOps.{BlockAt, JumpFollows, NumbersBranchFollow, branch_at}
+use Rattle.ia32_rows.specs.Rows.{jumping, moves_into, moves_to}
+use Rattle.ia32_laws.specs.CoresOps.{BlockAt, JumpFollows}
 use Rattle.ia32_laws.proofs.Beside.{same-from}
-use Rattle.ia32_laws.proofs.Branches.{branch-goes}
 
 -- ---- what is kept
 

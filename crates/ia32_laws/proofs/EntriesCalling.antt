@@ -35,7 +35,7 @@ use Rattle.ia32_rows.specs.Rows.{deepen, pass_all}
 use Rattle.ia32_laws.specs.KeepsLaws.{data_end}
 use Rattle.ia32_laws.specs.Supports.{IsSupported, site_of}
 use Rattle.ia32_laws.proofs.KeepsApart.{element-ends, frame-array, frame-room, object-read}
-use Rattle.ia32_laws.proofs.Memory.{shapes-are, text-is}
+use Rattle.ia32_laws.proofs.Memory.{shapes-are, small-is, text-is}
 use Rattle.ia32_laws.proofs.Objects.{depth-in}
 use Rattle.ia32_laws.proofs.Ops.{op-is}
 use Rattle.ia32_laws.proofs.Shown.{elements-kept, point-supported, waits-supported}
@@ -307,6 +307,7 @@ begun-called code input g s u site back d f arguments values words point h state
       placed = first-in point (points_of (flow_at code.program f) 0) first;
       shapes = shapes-are code.text (objects_of code.program) u.memory sound.bytes memory.0 memory.1;
       text = text-is code.text u.memory (data_start code.text) sound.bytes memory.0;
+      small = small-is code.text (data_start code.text) sound.bytes u.memory memory.0 sound.small;
       room = subst (λ (x : ℕ). stack_end code.text (objects_of code.program) ≤ x + stack_bytes code (active_of g))
           (sym whole) shown.room;
       few = few;

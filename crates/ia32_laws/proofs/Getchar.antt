@@ -109,6 +109,7 @@ takes-one site items a y rest s sound ready eax ebx ecx edx held low high some s
       size = h.sound.size;
       above = h.sound.above;
       below = h.sound.below;
+      small = h.sound.small;
       registers = h.sound.registers;
     } in
     let t : State = with_word Eax 1 m in

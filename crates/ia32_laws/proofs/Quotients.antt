@@ -1,6 +1,5 @@
 -- What CDQ and IDIV, and DIV with 0 above the dividend, make of words.
-use Rattle.std.proofs.Common.{◌≡◌, ℕ, ◌+◌, ◌*◌, ◌/◌, ◌%◌, ◌^◌, ◌<◌, ◌≤◌, ◌==◌, Bool, true, false, Option, Some, None, ap}
-use Rattle.std.proofs.Common.{sym, ◌∙◌, rules, arith}
+use Rattle.std.proofs.Common.{rules}
 use Rattle.ia32_laws.specs.Words.{DivisionIs, DivisionTraps, UnsignedDivisionIs, UnsignedDivisionTraps}
 
 pub division-traps : DivisionTraps

@@ -210,6 +210,7 @@ at-caller code input g s u w waiting base rest x r items words h back brings man
       size = (back.sound).size;
       above = (back.sound).above;
       below = (back.sound).below;
+      small = (back.sound).small;
       registers = (back.sound).registers;
     }) (site-depth code w.activation.function h.supported) whole
     (enough site.low (word_of Esp s) (frame_size code g.current) (word_of Ebp s) (word_of Esp u) bounds.room bounds.esp

@@ -1,5 +1,5 @@
 -- The machine follows divisions, and their traps.
-use Rattle.std.proofs.Common.{◌≡◌, ℕ, ◌+◌, ◌*◌, ◌^◌, ◌<◌, ◌≤◌, Bool, true, false, ℤ, List, [], ◌∷◌, ◌++◌, length}
+use Rattle.std.proofs.Common.{◌≡◌, ℕ, ◌+◌, ◌^◌, ◌<◌, ◌≤◌, Bool, true, false, ℤ, List, [], ◌∷◌, ◌++◌, length}
 use Rattle.std.proofs.Common.{Option, Some, None, Err, inl, inr, refl, sym, ap, subst, ◌∙◌, arith, append_assoc}
 use Rattle.std.specs.Prelude.{FitsSigned, int_div, int_rem, if◌then◌else◌}
 use Rattle.std.specs.Int.{w32, cast_unsigned}
@@ -12,12 +12,10 @@ use Rattle.ia32_insn.specs.declared.register_names.Reg32.TheVariants.{Eax, Edx}
 use Rattle.ia32_insn.specs.Places.{Place, InWord, InByte, InSlot}
 use Rattle.ia32_insn.specs.declared.operand.Rm32.{Rm32}
 use Rattle.ia32_insn.specs.declared.insn.Insn.{Insn}
-use Rattle.ia32_insn.specs.declared.insn.Insn.TheVariants as insn
 use Rattle.ia32_insn.specs.declared.item.Item.{Item}
 use Rattle.ia32_insn.specs.declared.item.Item.TheVariants as item
 use Rattle.ia32_insn.specs.State as machine
 use Rattle.ia32_insn.specs.State.{at_address}
-use Rattle.ia32_insn.specs.Arithmetic.{sign_word, signed_divided}
 use Rattle.ia32_insn.specs.Meaning as moved
 use Rattle.ia32_insn.specs.Meaning.{effect}
 use Rattle.ia32_insn.specs.Items.{plain}

@@ -26,7 +26,7 @@ use Rattle.ia32_laws.specs.Supports.{IsPlaceFor, IsSupported, Supports}
 use Rattle.ia32_laws.specs.Protected.{ArgumentReads, ChainReads}
 use Rattle.ia32_laws.specs.Protected.{SlotReads}
 use Rattle.ia32_laws.specs.KeepsLaws.{InFrame, ShownInFrame, data_end}
-use Rattle.ia32_laws.proofs.Memory.{areas-are, text-above}
+use Rattle.ia32_laws.proofs.Memory.{areas-are, data-small, text-above}
 use Rattle.ia32_laws.proofs.Chain.{WaitsSupported}
 use Rattle.ia32_laws.proofs.Shown.{waits-supported}
 
@@ -106,6 +106,7 @@ bounds code input g s h state shown =
       size = areas.2;
       above = text-above code.text;
       below = h.fits;
+      small = data-small code.text (data_start code.text) areas.0 s.memory areas.1 shown.small;
       registers = shown.registers;
     } in
     let small = stack-small code g.current g.waiting h state.active state.waiting in

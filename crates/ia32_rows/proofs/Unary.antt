@@ -147,7 +147,7 @@ zero-makes : (site : Site) (r : Reg32) (q : Reg8) (s : State) → SoundAt site s
 zero-makes site r q s sound =
     record { straight = tt; does = λ address. refl; sound = result-makes site r (byte_of q s) s.flags s sound }
 
-zero_slot-makes : (site : Site) (frame : ℕ) (r : Reg32) (k v : ℕ) (s : State) → Framed site frame s → 0 < k
+pub zero_slot-makes : (site : Site) (frame : ℕ) (r : Reg32) (k v : ℕ) (s : State) → Framed site frame s → 0 < k
     → k ≤ frame → load 1 (word_of Ebp s - k) s ≡ Ok v
     → Makes site (insn.MovZx8 r (rm8.Mem (below k))) s (with_result r v s.flags s)
 zero_slot-makes site frame r k v s framed some within held =
