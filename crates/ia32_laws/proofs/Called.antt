@@ -30,12 +30,7 @@ use Rattle.ia32_laws.proofs.Entry.{entry-comes}
 use Rattle.ia32_laws.specs.StartsLaws.{MainIsCalled, MainIsShown, StartedOver, image_state}
 use Rattle.ia32_laws.proofs.Data.{copied, objects-begin}
 use Rattle.ia32_laws.proofs.Start.{enough, start-goes-over}
-
--- an element of a list of one value is that
-mapped : {X Y : Type 0} → (xs : List X) (y z : Y) (v : ℕ) → slice_get (map (λ x. y) xs) v ≡ Some z → y ≡ z
-mapped [] y z v e = absurd (none-some z e)
-mapped (x ∷ xs) y z zero e = same_Some y z e
-mapped (x ∷ xs) y z (suc v) e = mapped xs y z v e
+use Rattle.ia32_laws.proofs.Fresh.{mapped}
 
 -- ---- the static objects
 

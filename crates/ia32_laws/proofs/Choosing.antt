@@ -42,6 +42,7 @@ use Rattle.ia32_laws.proofs.Elsewhere.{at-own-address, keeps-at}
 use Rattle.ia32_rows.specs.Rows.{jumping, moves_into, moves_to}
 use Rattle.ia32_laws.specs.CoresOps.{BlockAt, JumpFollows}
 use Rattle.ia32_laws.proofs.Beside.{same-from}
+use Rattle.flow_graph.proofs.Changes.{first-in}
 
 -- ---- what is kept
 
@@ -52,7 +53,7 @@ scratch-cells frame (InWord r) placed =
 scratch-cells frame (InByte r) placed = let b = byte-below r in inl (omega arith)
 scratch-cells frame (InSlot k) placed = tt
 
-all-memory : (base : ℕ) (q : Place) → PlaceHasMemory Anywhere base q
+pub all-memory : (base : ℕ) (q : Place) → PlaceHasMemory Anywhere base q
 all-memory base (InWord r) = tt
 all-memory base (InByte r) = tt
 all-memory base (InSlot k) = (tt, tt)
@@ -78,11 +79,6 @@ scratch-keeps code g frames s u o supported state has keeps =
     }
 
 -- ---- the branch
-
--- a first point is in its block
-first-in : (q : ℕ) (ps : List ℕ) → slice_get ps 0 ≡ Some q → IsIn q ps
-first-in q [] e = absurd (none-some q e)
-first-in q (p ∷ ps) e = inl (same_Some p q e)
 
 -- on the way to a block
 pub enters : (code : Code) (input : List ℕ) (g : graph.State) (s u : machine.State) (o : Op) (block after : ℕ)

@@ -35,7 +35,7 @@ use Rattle.ia32_rows.proofs.Straight.{leads-join}
 use Rattle.ia32_rows.proofs.Sums.{esi-works}
 use Rattle.ia32_rows.specs.Rows.{comparing, low_byte, set_row}
 use Rattle.ia32_laws.specs.CoresLaws.{SetPuts}
-use Rattle.ia32_rows.proofs.Bytes.{StoredByte, store-byte-in}
+use Rattle.ia32_rows.proofs.Bytes.{StoredByte, store-byte-in, stored_byte-keeps}
 use Rattle.ia32_rows.proofs.Unary.{zero_slot-makes}
 use Rattle.ia32_laws.proofs.Flags.{places-compare}
 use Rattle.ia32_laws.proofs.Goes.{Goes, goes-stricter, goes-then, result-goes}
@@ -102,21 +102,6 @@ set_register-goes site frame c d b s framed general e =
     apart k n b e (inr h) f = omega (arith, e, f)
 
 -- ---- to a slot
-
-stored_byte-keeps : (site : Site) (a v : ℕ) (s t : State) → StoredByte site a v s t
-    → Keeps (λ k. ⊤) (λ b n. AreDisjoint a 4 b n) s t
-stored_byte-keeps site a v s t h =
-    record {
-      cells = λ k r. ap (λ (cells : List ℕ). get_or cells k 0) h.rest.registers;
-      loads = λ n b w k e. h.apart n b w (narrow a b n k) e;
-      left = h.rest.left;
-      taken = h.rest.taken;
-      written = h.rest.written;
-    }
-  where
-    narrow : (a b n : ℕ) → AreDisjoint a 4 b n → AreDisjoint a 1 b n
-    narrow a b n (inl p) = inl (omega arith)
-    narrow a b n (inr p) = inr p
 
 -- SETcc of the low byte of a slot
 set_slot-makes : (site : Site) (frame : ℕ) (c : Cond) (k : ℕ) (b : Bool) (s : State) → Framed site frame s → 4 ≤ k

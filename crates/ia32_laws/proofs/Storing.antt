@@ -290,7 +290,7 @@ pub record IsRead (site : Site) (frame : ℕ) (q : Place) (x : ℕ) (s u : State
   pub goes : Goes (OutsideWord Esi) site frame (read (target_of q) q) s u
   pub value : word_of (target_of q) u ≡ x
 
-alone : (r : Reg32) → (number32 r == number32 r) ≡ true
+pub alone : (r : Reg32) → (number32 r == number32 r) ≡ true
 alone r = eq-eqb (number32 r) (number32 r) refl
 
 pub target-read : (site : Site) (frame : ℕ) (q : Place) (x : ℕ) (s : State) → Framed site frame s → HoldsWord q

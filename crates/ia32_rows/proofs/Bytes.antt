@@ -128,7 +128,7 @@ store_byte-makes site frame r k s framed some within =
 -- ---- the copy
 
 -- one byte of memory
-stored_byte-keeps : (site : Site) (a v : ℕ) (s t : State) → StoredByte site a v s t
+pub stored_byte-keeps : (site : Site) (a v : ℕ) (s t : State) → StoredByte site a v s t
     → Keeps (λ k. ⊤) (λ b n. AreDisjoint a 4 b n) s t
 stored_byte-keeps site a v s t h =
     record {

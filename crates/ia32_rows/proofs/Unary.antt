@@ -29,7 +29,7 @@ use Rattle.ia32_rows.specs.Laws.{Gives, IsWorking, Puts}
 use Rattle.ia32_rows.specs.Unary.{ComplementPuts, ExtensionPuts, NegationPuts, ZeroExtensionPuts}
 use Rattle.ia32_rows.proofs.Kept.{framed-kept, other-cells, result-keeps}
 use Rattle.ia32_rows.proofs.Instructions.{below-loaded, result-makes}
-use Rattle.ia32_rows.proofs.Moves.{extend-gives, read-gives}
+use Rattle.ia32_rows.proofs.Moves.{extend-gives, read-gives, extended-fits as extended-small}
 use Rattle.ia32_rows.proofs.Sums.{gives-behind, target-puts, target-works}
 
 -- ---- on a register
@@ -119,9 +119,6 @@ extend_slot-makes site frame r k v s framed some within held =
           (load-same 1 (address_of (below k) s) v s (at_address address s) refl loaded);
       sound = result-makes site r (extended8 v) s.flags s framed.sound;
     }
-
-extended-small : (b : ℕ) → b < 256 → extended8 b < 2 ^ 32
-extended-small b h = grind (arith, ints)
 
 extend-gives-any : (site : Site) (frame : ℕ) (t : Reg32) (q : Place) (b : ℕ) (s : State) → Framed site frame s
     → IsWorking t → IsPlaceIn frame q → Contains s One q b → b < 256
