@@ -2,18 +2,18 @@
 
 ghost use Rattle.std.specs.Prelude.{◌≡◌, ◌++◌, ◌∷◌, [], OnOk, map};
 ghost use Rattle.ia32_insn.specs.declared.item.Item.TheVariants as item;
-ghost use Rattle.ia32_rows.specs.Rows.{branching, choosing, cond_of, jumping, setting};
+ghost use Rattle.ia32_rows.specs.Rows.{branching, choosing, cond_of, cond_of_order, jumping, setting};
 ghost use Rattle.ia32_emit.specs.Locations.{place_of};
 
 use crate::compared_words::{emit_compare, emit_jump, emit_truth};
 use crate::instructions::emit_all;
 use crate::locations::Location;
-use flow_graph::Comparison;
+use flow_graph::{Comparison, Order};
 use ia32_insn::{Cond, Insn, Item};
 use pcc_base::NoMemory;
 
 /// The condition of a signed comparison.
-fn cond_of(how: Comparison) -> Cond
+pub fn cond_of(how: Comparison) -> Cond
     ensures { result ≡ cond_of how }
 {
     match how {
@@ -26,19 +26,31 @@ fn cond_of(how: Comparison) -> Cond
     }
 }
 
-/// Whether two words, as signed numbers, compare so.
+/// The condition of a comparison of numbers without sign.
+pub fn cond_of_order(how: Order) -> Cond
+    ensures { result ≡ cond_of_order how }
+{
+    match how {
+        Order::Lt => Cond::B,
+        Order::Le => Cond::Be,
+        Order::Gt => Cond::A,
+        Order::Ge => Cond::Ae,
+    }
+}
+
+/// Whether two words compare so that the flags meet a condition.
 pub fn emit_set(
     out: &mut Vec<Item>,
-    how: Comparison,
+    condition: Cond,
     to: Location,
     first: Location,
     second: Location,
 ) -> Result<(), NoMemory>
     ensures { OnOk result (out.new.items
-        ≡ out.old.items ++ setting how (place_of to) (place_of first) (place_of second)) }
+        ≡ out.old.items ++ setting condition (place_of to) (place_of first) (place_of second)) }
 {
     emit_compare(out, first, second)?;
-    emit_truth(out, cond_of(how), to)
+    emit_truth(out, condition, to)
 }
 
 /// To one label where the flags meet a condition, to the other where they don't, through the moves on the way there.
@@ -97,11 +109,11 @@ fn emit_choice(
     }
 }
 
-/// To one label where two words compare so, to the other where they don't, each through the moves on its way; those on
-/// the way to the first, where there are any, stand behind a label of their own.
+/// To one label where two words compare so that the flags meet a condition, to the other where they don't, each through
+/// the moves on its way; those on the way to the first, where there are any, stand behind a label of their own.
 pub fn emit_branch(
     out: &mut Vec<Item>,
-    how: Comparison,
+    condition: Cond,
     detour: u32,
     first: Location,
     second: Location,
@@ -111,9 +123,9 @@ pub fn emit_branch(
     other: u32,
 ) -> Result<(), NoMemory>
     ensures { OnOk result (out.new.items
-        ≡ out.old.items ++ branching how detour (place_of first) (place_of second) (map item.Plain to_taken.now)
+        ≡ out.old.items ++ branching condition detour (place_of first) (place_of second) (map item.Plain to_taken.now)
         (map item.Plain to_other.now) taken other) }
 {
     emit_compare(out, first, second)?;
-    emit_choice(out, cond_of(how), detour, to_taken, to_other, taken, other)
+    emit_choice(out, condition, detour, to_taken, to_other, taken, other)
 }

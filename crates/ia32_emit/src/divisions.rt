@@ -59,15 +59,18 @@ pub fn divisor_of(divisor: Location) -> Rm32
     }
 }
 
-/// What stands before a division: the divisor out of the way, the first operand to EAX, and its sign to EDX.
+/// What stands before a division: the divisor out of the way, the first operand to EAX, and the upper word of the
+/// dividend to EDX, by an instruction.
 pub(crate) fn emit_before_division(
     out: &mut Vec<Item>,
+    upper: Insn,
     first: Location,
     second: Location,
 ) -> Result<(), NoMemory>
-    ensures { OnOk result (out.new.items ≡ out.old.items ++ before_division (place_of first) (place_of second)) }
+    ensures { OnOk result (out.new.items
+        ≡ out.old.items ++ before_division upper (place_of first) (place_of second)) }
 {
     emit_clear_divisor(out, second)?;
     emit_read(out, Reg32::Eax, first)?;
-    emit(out, Insn::Cdq)
+    emit(out, upper)
 }

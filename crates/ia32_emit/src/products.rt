@@ -80,15 +80,6 @@ pub fn emit_complement(out: &mut Vec<Item>, to: Location, operand: Location) -> 
     emit_write(out, to, register)
 }
 
-/// The low byte of a slot's word to a byte register.
-fn emit_low_slot(out: &mut Vec<Item>, to: Reg8, offset: i32) -> Result<(), NoMemory>
-    ensures { OnOk result (out.new.items
-        ≡ out.old.items ++ lowering (place_of (location.Byte to)) (place_of (location.Slot offset))) }
-{
-    emit_read(out, Reg32::Esi, Location::Slot(offset))?;
-    emit_write(out, Location::Byte(to), Reg32::Esi)
-}
-
 /// The low byte of a word to a byte register.
 fn emit_low_byte(out: &mut Vec<Item>, to: Reg8, operand: Location) -> Result<(), NoMemory>
     ensures { OnOk result (out.new.items
@@ -97,7 +88,7 @@ fn emit_low_byte(out: &mut Vec<Item>, to: Reg8, operand: Location) -> Result<(),
     match operand {
         Location::Word(r) => emit_copy_byte(out, low_byte(r), Location::Byte(to)),
         Location::Byte(r) => emit_copy_byte(out, r, Location::Byte(to)),
-        Location::Slot(offset) => emit_low_slot(out, to, offset),
+        Location::Slot(offset) => emit(out, Insn::Mov8Load(to, at_offset(offset))),
     }
 }
 
@@ -121,15 +112,6 @@ fn emit_half_byte(out: &mut Vec<Item>, register: Reg32, from: Reg8) -> Result<()
     emit(out, Insn::MovSx16(register, Rm32::Reg(register)))
 }
 
-/// The low 16 bits of a slot's word to a register, with their sign.
-fn emit_half_slot(out: &mut Vec<Item>, register: Reg32, offset: i32) -> Result<(), NoMemory>
-    ensures { OnOk result (out.new.items
-        ≡ out.old.items ++ extend_half register (place_of (location.Slot offset))) }
-{
-    emit_read(out, register, Location::Slot(offset))?;
-    emit(out, Insn::MovSx16(register, Rm32::Reg(register)))
-}
-
 /// The low 16 bits of a place's word to a register, with their sign.
 fn emit_extend_half(out: &mut Vec<Item>, register: Reg32, operand: Location) -> Result<(), NoMemory>
     ensures { OnOk result (out.new.items ≡ out.old.items ++ extend_half register (place_of operand)) }
@@ -137,7 +119,7 @@ fn emit_extend_half(out: &mut Vec<Item>, register: Reg32, operand: Location) -> 
     match operand {
         Location::Word(r) => emit(out, Insn::MovSx16(register, Rm32::Reg(r))),
         Location::Byte(r) => emit_half_byte(out, register, r),
-        Location::Slot(offset) => emit_half_slot(out, register, offset),
+        Location::Slot(offset) => emit(out, Insn::MovSx16(register, Rm32::Mem(at_offset(offset)))),
     }
 }
 

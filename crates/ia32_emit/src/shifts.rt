@@ -1,10 +1,11 @@
-//! The rows of bytes with their sign, of shifts and of divisions.
+//! The rows of bytes as words, of shifts and of divisions.
 
 ghost use Rattle.std.specs.Prelude.{◌≡◌, ◌∷◌, [], ◌++◌, OnOk};
 ghost use Rattle.ia32_insn.specs.Items.{plain};
 ghost use Rattle.ia32_insn.specs.declared.insn.Insn.TheVariants as insn;
 ghost use Rattle.ia32_insn.specs.declared.operand.Rm32.TheVariants as rm;
-ghost use Rattle.ia32_rows.specs.Rows.{extend, widening, into_count, shifted_in, shifting, dividing};
+ghost use Rattle.ia32_rows.specs.Rows.{before_division, byte_operand, dividing, into_count, shifted_in, shifting, write};
+ghost use Rattle.ia32_rows.specs.Rows.{widening, zero_edx};
 ghost use Rattle.ia32_emit.specs.Locations.{place_of};
 ghost use Rattle.ia32_emit.specs.declared.locations.Location.TheVariants as location;
 
@@ -14,26 +15,35 @@ use crate::locations::{
     Location, at_offset, is_same, low_byte, number_of_byte, target_of, working,
 };
 use crate::moves::{emit_read, emit_write};
-use ia32_insn::{Insn, Item, Reg8, Reg32, Rm8, Rm32, ShiftOp};
+use ia32_insn::{AluOp, Insn, Item, Reg8, Reg32, Rm8, Rm32, ShiftOp};
 use pcc_base::NoMemory;
 
-/// The byte of a place to a register, with its sign.
-fn emit_extend(out: &mut Vec<Item>, register: Reg32, operand: Location) -> Result<(), NoMemory>
-    ensures { OnOk result (out.new.items ≡ out.old.items ++ extend register (place_of operand)) }
+/// The byte of a place, or the lowest one of its word.
+fn byte_operand(operand: Location) -> Rm8
+    ensures { result ≡ byte_operand (place_of operand) }
 {
     match operand {
-        Location::Word(r) => emit(out, Insn::MovSx8(register, Rm8::Reg(low_byte(r)))),
-        Location::Byte(r) => emit(out, Insn::MovSx8(register, Rm8::Reg(r))),
-        Location::Slot(offset) => emit(out, Insn::MovSx8(register, Rm8::Mem(at_offset(offset)))),
+        Location::Word(r) => Rm8::Reg(low_byte(r)),
+        Location::Byte(r) => Rm8::Reg(r),
+        Location::Slot(offset) => Rm8::Mem(at_offset(offset)),
     }
 }
 
 /// A byte to a word, with its sign.
 pub fn emit_wide(out: &mut Vec<Item>, to: Location, operand: Location) -> Result<(), NoMemory>
-    ensures { OnOk result (out.new.items ≡ out.old.items ++ widening (place_of to) (place_of operand)) }
+    ensures { OnOk result (out.new.items ≡ out.old.items ++ widening insn.MovSx8 (place_of to) (place_of operand)) }
 {
     let register = target_of(to);
-    emit_extend(out, register, operand)?;
+    emit(out, Insn::MovSx8(register, byte_operand(operand)))?;
+    emit_write(out, to, register)
+}
+
+/// A byte to a word, with zero bits above it.
+pub fn emit_zero(out: &mut Vec<Item>, to: Location, operand: Location) -> Result<(), NoMemory>
+    ensures { OnOk result (out.new.items ≡ out.old.items ++ widening insn.MovZx8 (place_of to) (place_of operand)) }
+{
+    let register = target_of(to);
+    emit(out, Insn::MovZx8(register, byte_operand(operand)))?;
     emit_write(out, to, register)
 }
 
@@ -106,7 +116,27 @@ pub fn emit_shift(
     emit_write(out, to, register)
 }
 
-/// A division; the result is the quotient, in EAX, or the remainder, in EDX.
+/// A division by an instruction, behind the one that makes the upper word of its dividend; the result is the quotient,
+/// in EAX, or the remainder, in EDX.
+fn emit_dividing(
+    out: &mut Vec<Item>,
+    upper: Insn,
+    divide: Insn,
+    part: Reg32,
+    to: Location,
+    first: Location,
+    second: Location,
+) -> Result<(), NoMemory>
+    ensures { OnOk result (out.new.items
+        ≡ out.old.items ++ (before_division upper (place_of first) (place_of second) ++ plain divide ∷ []
+        ++ write (place_of to) part)) }
+{
+    emit_before_division(out, upper, first, second)?;
+    emit(out, divide)?;
+    emit_write(out, to, part)
+}
+
+/// A division of signed numbers, by CDQ and IDIV.
 pub fn emit_division(
     out: &mut Vec<Item>,
     part: Reg32,
@@ -114,10 +144,25 @@ pub fn emit_division(
     first: Location,
     second: Location,
 ) -> Result<(), NoMemory>
-    ensures { OnOk result (out.new.items
-        ≡ out.old.items ++ dividing part (place_of to) (place_of first) (place_of second)) }
+    ensures { OnOk result (out.new.items ≡ out.old.items
+        ++ dividing insn.Cdq insn.IDiv part (place_of to) (place_of first) (place_of second)) }
 {
-    emit_before_division(out, first, second)?;
-    emit(out, Insn::IDiv(divisor_of(second)))?;
-    emit_write(out, to, part)
+    let divide = Insn::IDiv(divisor_of(second));
+    emit_dividing(out, Insn::Cdq, divide, part, to, first, second)
+}
+
+/// A division of numbers without sign, by DIV with zero above the dividend.
+pub fn emit_unsigned_division(
+    out: &mut Vec<Item>,
+    part: Reg32,
+    to: Location,
+    first: Location,
+    second: Location,
+) -> Result<(), NoMemory>
+    ensures { OnOk result (out.new.items ≡ out.old.items
+        ++ dividing zero_edx insn.Div part (place_of to) (place_of first) (place_of second)) }
+{
+    let upper = Insn::Alu(AluOp::Xor, Rm32::Reg(Reg32::Edx), Reg32::Edx);
+    let divide = Insn::Div(divisor_of(second));
+    emit_dividing(out, upper, divide, part, to, first, second)
 }
