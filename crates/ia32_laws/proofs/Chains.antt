@@ -174,5 +174,3 @@ frames-above code active frames s younger frame (w ∷ waiting) (o ∷ older) (s
   where
     counted : (e n m p o f : ℕ) → o ≡ e + 8 + n + m → o + 8 + p ≤ f → e + 8 + p ≤ f
     counted e n m p o f h s = omega arith
-
--- ---- the bytes of the stack

@@ -60,10 +60,6 @@ words-read g (of ∷ ofs) words (x ∷ xs) (spot, others, e, here, more) =
     ap (values_at g) e
     ∙ one-read g of spot others x (all_words_passed ofs xs) here (words-read g ofs others xs more)
 
--- ---- where lines stand
-
-)
-
 -- what comes behind lines one after another
 pub comes-joined : (S : Site) (before xs ys : List Line) (g : graph.State) (turns : ℕ) (o : Outcome)
     → Comes S turns (behind (before ++ (xs ++ ys)) g) o → Comes S turns (behind ((before ++ xs) ++ ys) g) o

@@ -22,8 +22,6 @@ use Rattle.lower_lines.proofs.Changes.{kept-none, kept-twice}
 use Rattle.lower_laws.proofs.Going.{Goes, goes-end, visits-append}
 use Rattle.lower_laws.specs.Ways.{Behind, From, LeftBy}
 
-}) (sym (append_assoc us vs o.visits))
-
 -- nothing is done
 pub from-here : {A : Type 0} (S : Site) (active : List Function) (level : ℕ) (from : graph.State) (s : source.State)
     (g : graph.State) (aim : A → source.State → graph.State → Outcome → Type 0) (v : A) → Shows S.program active s g

@@ -253,8 +253,6 @@ turns-free p active s g turns visits block point shows = record {
 
 -- ---- what lines keep
 
-)
-
 waiting-twice : (us vs ws : List graph.Waiting) → AllZip SameWaiting us vs → AllZip SameWaiting vs ws
     → AllZip SameWaiting us ws
 waiting-twice [] [] [] a b = tt
