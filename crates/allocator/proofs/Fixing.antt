@@ -2,7 +2,7 @@
 use Rattle.std.proofs.Common.{ℕ, ◌≡◌, ◌<◌, length, inl, inr, Option, Some, None, refl, sym, ap, subst, ◌∙◌}
 use Rattle.std.proofs.lemmas.Option.{none-some, same_Some, slice_get_within}
 use Rattle.flow_graph.specs.declared.op.Op.{Op}
-use Rattle.flow_graph.specs.declared.op.Op.TheVariants.{Div, Rem, Sar, Shl}
+use Rattle.flow_graph.specs.declared.op.Op.TheVariants.{Div, Rem, Sar, Shl, Shr, Udiv, Urem}
 use Rattle.flow_graph.specs.Graphs.{Flow, FitsOp, IsIn}
 use Rattle.flow_graph.specs.Liveness.{FixedDies, IsLiveAfter, TakenDies, defined, uses}
 use Rattle.flow_graph.specs.Shapes.{Takes, NoRegister, Count, Division, AcrossCall, Quotient, Remainder, shape}
@@ -24,8 +24,11 @@ fixed-here v fixed found is e = sym (is ∙ ap (λ (f : Fixed). f.variable) (sam
 pub fixed-used : (op : Op) (fixed : Fixed) → fixed_use op ≡ Some fixed → IsIn fixed.variable (uses op)
 fixed-used (Shl d a c) fixed e = inr (inl (sym (fixed-here c (fixed_at c cl) fixed refl e)))
 fixed-used (Sar d a c) fixed e = inr (inl (sym (fixed-here c (fixed_at c cl) fixed refl e)))
+fixed-used (Shr d a c) fixed e = inr (inl (sym (fixed-here c (fixed_at c cl) fixed refl e)))
 fixed-used (Div d a b) fixed e = inl (sym (fixed-here a (fixed_at a eax) fixed refl e))
 fixed-used (Rem d a b) fixed e = inl (sym (fixed-here a (fixed_at a eax) fixed refl e))
+fixed-used (Udiv d a b) fixed e = inl (sym (fixed-here a (fixed_at a eax) fixed refl e))
+fixed-used (Urem d a b) fixed e = inl (sym (fixed-here a (fixed_at a eax) fixed refl e))
 fixed-used _ fixed e = absurd (none-some fixed e)
 
 taken-dies : (flow : Flow) (point : ℕ) (takes : Takes) (fixed : Fixed) → TakenDies flow point takes

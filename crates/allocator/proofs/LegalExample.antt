@@ -47,7 +47,7 @@ live-second : (v : ℕ) → IsLiveBefore five_returned v 1 → 0 ≡ v
 live-second v (n, reach) = reaches-second v n reach
 
 -- point 0 uses nothing, defines variable 0, and leads to point 1
-behind-first : (next : ℕ) → IsBehind five_returned 0 next → 1 ≡ next
+pub behind-first : (next : ℕ) → IsBehind five_returned 0 next → 1 ≡ next
 behind-first next (zero, e) = same_Some 1 next e
 behind-first next (suc block, e) = absurd (none-some next e)
 

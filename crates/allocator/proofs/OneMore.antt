@@ -12,19 +12,7 @@ use Rattle.flow_graph.specs.Lives.{IsAscending}
 use Rattle.flow_graph.proofs.Points.{every-in}
 use Rattle.allocator.specs.PointBoards.{with_one, with_result}
 use Rattle.allocator.proofs.Placing.{at-in}
-
-pub every-get : (P : ℕ → Type 0) (vs : List ℕ) (k : ℕ) → AllByRecursion P vs → k < length vs → P (get_or vs k 0)
-every-get P [] k h lt = absurd (omega (arith, lt))
-every-get P (v ∷ vs) zero h lt = h.0
-every-get P (v ∷ vs) (suc k) h lt = every-get P vs k h.1 (omega (arith, lt))
-
-pub rises : (vs : List ℕ) → IsAscending vs → (i j : ℕ) → i ≤ j → j < length vs → get_or vs i 0 ≤ get_or vs j 0
-rises [] h i j le lt = absurd (omega (arith, lt))
-rises (v ∷ vs) h zero zero le lt = omega arith
-rises (v ∷ vs) h zero (suc j) le lt =
-    let less = every-get (λ w. v < w) vs j h.0 (omega (arith, lt)) in omega (arith, less)
-rises (v ∷ vs) h (suc i) zero le lt = absurd (omega (arith, le))
-rises (v ∷ vs) h (suc i) (suc j) le lt = rises vs h.1 i j (omega (arith, le)) (omega (arith, lt))
+pub use Rattle.allocator.proofs.Placing.{every-get, rises}
 
 above-other : (m n : ℕ) → m < n → n ≢ m
 above-other m n h e = absurd (omega (arith, h, e))

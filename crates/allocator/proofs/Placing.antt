@@ -19,6 +19,7 @@ use Rattle.flow_liveness.specs.Names.{joined, one_further, place_in, place_of}
 use Rattle.allocator.specs.SplitForms.{ArePlaces, placed_count}
 use Rattle.flow_liveness.proofs.Naming.{equal-test, in-either, in-test, other-test, place-at}
 use Rattle.flow_liveness.proofs.Naming.{placed-place, test-in}
+use Rattle.flow_liveness.proofs.Distancing.{split}
 
 -- ---- members by place
 
@@ -46,25 +47,18 @@ not-in v vs n = by (has_point v vs) (λ e. n (test-in v vs e))
 
 -- ---- binary search
 
-every-get : (P : ℕ → Type 0) (vs : List ℕ) (k : ℕ) → AllByRecursion P vs → k < length vs → P (get_or vs k 0)
+pub every-get : (P : ℕ → Type 0) (vs : List ℕ) (k : ℕ) → AllByRecursion P vs → k < length vs → P (get_or vs k 0)
 every-get P [] k h lt = absurd (omega (arith, lt))
 every-get P (v ∷ vs) zero h lt = h.0
 every-get P (v ∷ vs) (suc k) h lt = every-get P vs k h.1 (omega (arith, lt))
 
-rises : (vs : List ℕ) → IsAscending vs → (i j : ℕ) → i ≤ j → j < length vs → get_or vs i 0 ≤ get_or vs j 0
+pub rises : (vs : List ℕ) → IsAscending vs → (i j : ℕ) → i ≤ j → j < length vs → get_or vs i 0 ≤ get_or vs j 0
 rises [] h i j le lt = absurd (omega (arith, lt))
 rises (v ∷ vs) h zero zero le lt = omega arith
 rises (v ∷ vs) h zero (suc j) le lt =
     let less = every-get (λ w. v < w) vs j h.0 (omega (arith, lt)) in omega (arith, less)
 rises (v ∷ vs) h (suc i) zero le lt = absurd (omega (arith, le))
 rises (v ∷ vs) h (suc i) (suc j) le lt = rises vs h.1 i j (omega (arith, le)) (omega (arith, lt))
-
--- of two numbers one is below the other, or it isn't
-split : (a b : ℕ) → (a < b) ⊎ (b ≤ a)
-split zero zero = inr (omega arith)
-split zero (suc b) = inl (omega arith)
-split (suc a) zero = inr (omega arith)
-split (suc a) (suc b) = elim (split a b) [ inl l ↦ inl (omega (arith, l)) | inr l ↦ inr (omega (arith, l)) ]
 
 -- a binary search tells whether a variable is listed
 pub listed-told : (vs : List ℕ) (v : ℕ) (r : Result ℕ ℕ) → IsAscending vs

@@ -75,12 +75,12 @@ fixed-found (Some f) entries v place e = by (cases_eq v f.variable)
     by (inl same) = inl (f, refl, sym same)
     by (inr other) = inr (sym (place-other entries f.variable v (Cells f.spot) other) ∙ e)
 
-fixed-of : (o : Option Fixed) (v : ℕ) → is_named (fixed_variable o) v ≡ true
+pub fixed-of : (o : Option Fixed) (v : ℕ) → is_named (fixed_variable o) v ≡ true
     → (f : Fixed) × (o ≡ Some f) × (f.variable ≡ v)
 fixed-of None v e = absurd (true≢false (sym e))
 fixed-of (Some f) v e = (f, refl, same_Some f.variable v (named-some (Some f.variable) v e))
 
-two-tests : (b : Bool) → (b ≡ true) ⊎ (b ≡ false)
+pub two-tests : (b : Bool) → (b ≡ true) ⊎ (b ≡ false)
 two-tests true = inl refl
 two-tests false = inr refl
 
@@ -96,7 +96,7 @@ through true false e f = refl
 through true true e f = absurd (true≢false f)
 through false d e f = absurd (true≢false (sym e))
 
-use-upper : (a d : Bool) → is_upper (use_kind a d) ≡ true
+pub use-upper : (a d : Bool) → is_upper (use_kind a d) ≡ true
 use-upper true true = refl
 use-upper true false = refl
 use-upper false d = refl

@@ -17,15 +17,13 @@ use Rattle.puzzle_board.specs.declared.piece.Piece.{Piece}
 use Rattle.puzzle_board.specs.declared.place.Place.{Place}
 use Rattle.puzzle_board.specs.Places.{Entry, IsRising, PlaceMap, entries_at, place_in, with_after, with_before}
 use Rattle.puzzle_board.specs.Places.{with_place}
-use Rattle.puzzle_board.proofs.Sides.{rising-with}
+use Rattle.puzzle_board.proofs.Sides.{rising-with, with-by}
 use Rattle.allocator.specs.Order.{AreInOrder, Precedes}
 use Rattle.allocator.specs.Sides.{ArePut, ChangesPoint, is_lower, is_upper, with_kind}
 use Rattle.allocator.proofs.Listing.{order-at}
+use Rattle.allocator.proofs.Standing.{less-one}
 
 -- ---- what is found once a variable has a place
-
-with-by : Entry → List Entry → ℕ → Place → List Entry → Bool → Bool → List Entry
-with-by e entries v place more b c = cond b ((v, place) ∷ entries) (cond c ((v, place) ∷ e ∷ entries) (e ∷ more))
 
 same-by :
     (e : Entry) (entries : List Entry) (v : ℕ) (place : Place) (more : List Entry) (b c : Bool) → (e.0 == v) ≡ b
@@ -167,9 +165,6 @@ put-none side pieces places entries is = record {
   has = λ k p place lt. absurd (omega (arith, lt));
   only = λ v place e. absurd (none-some place (sym (ap (λ (es : List Entry). place_in es v) is) ∙ e));
 }
-
-less-one : (k n : ℕ) → k < n + 1 → (k < n) ⊎ (k ≡ n)
-less-one k n lt = grind arith
 
 -- a piece that stands on the side
 pub put-more :

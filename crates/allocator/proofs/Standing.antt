@@ -27,7 +27,7 @@ places-none slots pieces spots = record {
   each = λ k piece spot lt. absurd (omega (arith, lt));
 }
 
-less-one : (k n : ℕ) → k < n + 1 → (k < n) ⊎ (k ≡ n)
+pub less-one : (k n : ℕ) → k < n + 1 → (k < n) ⊎ (k ≡ n)
 less-one k n lt = grind arith
 
 pub places-more :

@@ -21,18 +21,20 @@ pub fn fixed_use(op: &Op) -> Option<(u32, Spot)>
         columns: Columns::All,
     };
     match op {
-        Op::Shl(_, _, count) | Op::Sar(_, _, count) => Some((*count, cl)),
+        Op::Shl(_, _, count) | Op::Sar(_, _, count) | Op::Shr(_, _, count) => Some((*count, cl)),
         Op::Div(_, dividend, _) | Op::Rem(_, dividend, _) => Some((*dividend, eax)),
+        Op::Udiv(_, dividend, _) | Op::Urem(_, dividend, _) => Some((*dividend, eax)),
         Op::Call(_, _, _) | Op::Putchar(_, _) | Op::Getchar(_) | Op::Exit(_) => None,
-        Op::Const(_, _) | Op::Copy(_, _) | Op::Wide(_, _) | Op::Low(_, _) => None,
-        Op::Low16(_, _) | Op::Neg(_, _) | Op::Not(_, _) | Op::Add(_, _, _) => None,
-        Op::Sub(_, _, _) | Op::Mul(_, _, _) | Op::And(_, _, _) => None,
-        Op::Or(_, _, _) | Op::Xor(_, _, _) | Op::Set(_, _, _, _) => None,
+        Op::Const(_, _) | Op::Copy(_, _) | Op::Wide(_, _) | Op::Zero(_, _) => None,
+        Op::Low(_, _) | Op::Low16(_, _) | Op::Neg(_, _) | Op::Not(_, _) => None,
+        Op::Add(_, _, _) | Op::Sub(_, _, _) | Op::Mul(_, _, _) => None,
+        Op::And(_, _, _) | Op::Or(_, _, _) | Op::Xor(_, _, _) => None,
+        Op::Set(_, _, _, _) | Op::Setu(_, _, _, _) => None,
         Op::Frame(_, _) | Op::Static(_, _) | Op::Load(_, _, _, _) => None,
         Op::Store(_, _, _, _) | Op::Get(_, _, _) | Op::Put(_, _, _) => None,
         Op::Clear(_) | Op::Param(_, _) | Op::Same(_, _) => None,
         Op::Mark(_) | Op::Turn | Op::Jump(_) => None,
-        Op::Branch(_, _, _, _, _) | Op::Return(_) => None,
+        Op::Branch(_, _, _, _, _) | Op::Branchu(_, _, _, _, _) | Op::Return(_) => None,
     }
 }
 
@@ -50,18 +52,20 @@ pub fn fixed_result(op: &Op) -> Option<(u32, Spot)>
         columns: Columns::All,
     };
     match op {
-        Op::Div(quotient, _, _) => Some((*quotient, eax)),
-        Op::Rem(remainder, _, _) => Some((*remainder, edx)),
+        Op::Div(quotient, _, _) | Op::Udiv(quotient, _, _) => Some((*quotient, eax)),
+        Op::Rem(remainder, _, _) | Op::Urem(remainder, _, _) => Some((*remainder, edx)),
         Op::Call(Some(to), _, _) | Op::Putchar(to, _) | Op::Getchar(to) => Some((*to, eax)),
-        Op::Call(None, _, _) | Op::Exit(_) | Op::Shl(_, _, _) | Op::Sar(_, _, _) => None,
-        Op::Const(_, _) | Op::Copy(_, _) | Op::Wide(_, _) | Op::Low(_, _) => None,
-        Op::Low16(_, _) | Op::Neg(_, _) | Op::Not(_, _) | Op::Add(_, _, _) => None,
-        Op::Sub(_, _, _) | Op::Mul(_, _, _) | Op::And(_, _, _) => None,
-        Op::Or(_, _, _) | Op::Xor(_, _, _) | Op::Set(_, _, _, _) => None,
+        Op::Call(None, _, _) | Op::Exit(_) => None,
+        Op::Shl(_, _, _) | Op::Sar(_, _, _) | Op::Shr(_, _, _) => None,
+        Op::Const(_, _) | Op::Copy(_, _) | Op::Wide(_, _) | Op::Zero(_, _) => None,
+        Op::Low(_, _) | Op::Low16(_, _) | Op::Neg(_, _) | Op::Not(_, _) => None,
+        Op::Add(_, _, _) | Op::Sub(_, _, _) | Op::Mul(_, _, _) => None,
+        Op::And(_, _, _) | Op::Or(_, _, _) | Op::Xor(_, _, _) => None,
+        Op::Set(_, _, _, _) | Op::Setu(_, _, _, _) => None,
         Op::Frame(_, _) | Op::Static(_, _) | Op::Load(_, _, _, _) => None,
         Op::Store(_, _, _, _) | Op::Get(_, _, _) | Op::Put(_, _, _) => None,
         Op::Clear(_) | Op::Param(_, _) | Op::Same(_, _) => None,
         Op::Mark(_) | Op::Turn | Op::Jump(_) => None,
-        Op::Branch(_, _, _, _, _) | Op::Return(_) => None,
+        Op::Branch(_, _, _, _, _) | Op::Branchu(_, _, _, _, _) | Op::Return(_) => None,
     }
 }

@@ -29,19 +29,22 @@ pub fn areas_of(op: &Op) -> [Area; 4]
         high: Column::Both,
     };
     match op {
-        Op::Shl(_, _, _) | Op::Sar(_, _, _) => [free, free, count, free],
+        Op::Shl(_, _, _) | Op::Sar(_, _, _) | Op::Shr(_, _, _) => [free, free, count, free],
         Op::Div(_, _, _) | Op::Rem(_, _, _) => [taken, free, free, taken],
+        Op::Udiv(_, _, _) | Op::Urem(_, _, _) => [taken, free, free, taken],
         Op::Call(_, _, _) | Op::Putchar(_, _) => [before, free, before, before],
         Op::Getchar(_) | Op::Exit(_) => [before, free, before, before],
         Op::Const(_, _) | Op::Copy(_, _) | Op::Wide(_, _) => [free, free, free, free],
-        Op::Low(_, _) | Op::Low16(_, _) => [free, free, free, free],
+        Op::Zero(_, _) | Op::Low(_, _) | Op::Low16(_, _) => [free, free, free, free],
         Op::Neg(_, _) | Op::Not(_, _) | Op::Add(_, _, _) => [free, free, free, free],
         Op::Sub(_, _, _) | Op::Mul(_, _, _) | Op::And(_, _, _) => [free, free, free, free],
-        Op::Or(_, _, _) | Op::Xor(_, _, _) | Op::Set(_, _, _, _) => [free, free, free, free],
+        Op::Or(_, _, _) | Op::Xor(_, _, _) => [free, free, free, free],
+        Op::Set(_, _, _, _) | Op::Setu(_, _, _, _) => [free, free, free, free],
         Op::Frame(_, _) | Op::Static(_, _) | Op::Load(_, _, _, _) => [free, free, free, free],
         Op::Store(_, _, _, _) | Op::Get(_, _, _) | Op::Put(_, _, _) => [free, free, free, free],
         Op::Clear(_) | Op::Param(_, _) | Op::Same(_, _) => [free, free, free, free],
         Op::Mark(_) | Op::Turn | Op::Jump(_) => [free, free, free, free],
-        Op::Branch(_, _, _, _, _) | Op::Return(_) => [free, free, free, free],
+        Op::Branch(_, _, _, _, _) | Op::Branchu(_, _, _, _, _) => [free, free, free, free],
+        Op::Return(_) => [free, free, free, free],
     }
 }

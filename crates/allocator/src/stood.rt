@@ -119,7 +119,7 @@ impl Stood {
         }
         match *graph.op(point) {
             Op::Jump(block) => self.lead(first_of(graph, block), point),
-            Op::Branch(_, _, _, block, other) => {
+            Op::Branch(_, _, _, block, other) | Op::Branchu(_, _, _, block, other) => {
                 self.lead(first_of(graph, block), point);
                 self.lead(first_of(graph, other), point);
             }

@@ -47,6 +47,9 @@ use Rattle.c_typing.proofs.FilesCountUp.{by_initialiser}
 use Rattle.c_check.proofs.Quiet.{parameters_quiet}
 use Rattle.c_check.proofs.QuietBodies.{contents_quiet, stored_quiet, statements_quiet}
 use Rattle.c_check.proofs.Outside.{object_outside, parameters_outside, statements_outside}
+use Rattle.c_check_laws.proofs.RowsSound.{either_false}
+use Rattle.c_check_laws.proofs.OneTypeEach.{none_false, allowed_outer as allowed_outside}
+use Rattle.c_check_laws.proofs.FilesSound.{none_first}
 
 -- ---- what is apart
 
@@ -130,11 +133,6 @@ bound_before : (said : Specified) (name : Identifier) (whole : Bool) (o : Option
 bound_before said name whole None s f h = h
 bound_before said name whole (Some g) s f h = h.1
 
-allowed_outside : (name : Identifier) (o : Outer) (type : Option ObjectType) (s : Scope)
-    → (bound_allowed name o type s).outer ≡ s.outer
-allowed_outside name o None s = refl
-allowed_outside name o (Some type) s = object_outside name o.entity type s
-
 object_before : (said : Specified) (name : Identifier) (whole : Bool) (o : Option Declared) (s : Scope) (f : Entity)
     → IsNew (bound_outer said name whole o s).outer f → IsNew s.outer f
 object_before said name whole None s f h = h
@@ -213,10 +211,6 @@ outer_items_once said (i ∷ is) s =
 
 -- ---- what fits is new
 
-either_false : (a b : Bool) → (a || b) ≡ false → (a ≡ false) × (b ≡ false)
-either_false true b h = absurd (true≢false h)
-either_false false b h = (refl, h)
-
 -- two declarations that are both whole, and don't clash
 not_same : (a b c d : Bool) → (a && (b || (c && d))) ≡ false → c ≡ true → d ≡ true → a ≡ false
 not_same false b c d h k l = refl
@@ -232,14 +226,6 @@ none_clashes o w (x ∷ xs) h =
       λ k. not_same (same_entity o.entity x.entity) (not (same_type o.type x.type)) o.whole x.whole p.0 w k,
       none_clashes o w xs p.1,
     )
-
-none_false : (b : Bool) (f : Fault) → (if b then f ∷ [] else []) ≡ [] → b ≡ false
-none_false true f e = grind arith
-none_false false f e = refl
-
-none_first : {A : Type 0} (xs ys : List A) → xs ++ ys ≡ [] → xs ≡ []
-none_first [] ys e = refl
-none_first (x ∷ xs) ys e = grind arith
 
 not_redeclared : (s : Scope) (name : Identifier) (o : Outer) → o.whole ≡ true → redeclared_faults s name o ≡ []
     → IsNew s.outer o.entity

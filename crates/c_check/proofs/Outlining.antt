@@ -26,6 +26,7 @@ use Rattle.c_check_expressions.specs.Said.{IsSaid}
 use Rattle.c_check.specs.ProgramAnswers.{AreFunctions, AreJudged, IsRefusal}
 use Rattle.c_check.specs.Outlines.{IsOutline, IsOutlineOf, IsUnfinished, unfinished}
 use Rattle.c_check.specs.declared.outlines.Outline.{Outline}
+use Rattle.c_typing.proofs.OneProgram.{main_there, none_both, no_faults as none_missing, some_is_none}
 
 abbrev pub Functions : Type 0
 Functions = Vec Function Global
@@ -62,20 +63,6 @@ no_faults : (units : List (List ExternalTree)) (v : Functions) (notes : List Not
 no_faults units v notes h = same_faults units ∙ no_faults_in AreFunctions (judged no_numbers units) v notes h
 
 -- ---- numbers and outline
-
-some_is_none : {A : Type 0} (x : A) → Some x ≡ None → ⊥
-some_is_none x e = grind arith
-
-none_both : (f g : Option Fault) → or_else f g ≡ None → (f ≡ None) × (g ≡ None)
-none_both None g e = (refl, e)
-none_both (Some f) g e = absurd (some_is_none f e)
-
-none_missing : (fs : List Fault) → least fs ≡ None → fs ≡ []
-none_missing fs e = subst (IsLeastOf fs) e (least_is_least fs)
-
-main_there : (b : Bool) (end : Span) → no_main b end ≡ None → b ≡ true
-main_there true end e = refl
-main_there false end e = absurd (some_is_none (fault NoMain end) e)
 
 -- notes by which nothing is missing give an outline
 pub outlined : (notes : List Note) (end : Span) (o : Outline) → unfinished notes end ≡ None

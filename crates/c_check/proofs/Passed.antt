@@ -12,24 +12,7 @@ use Rattle.c_check_expressions.proofs.Answered.{grown_pair, grown_row}
 use Rattle.c_check_expressions.proofs.Gathering.{fits_same}
 use Rattle.c_check_declarations.proofs.Lists.{rejoined, notes_same}
 use Rattle.c_check.specs.OutsideAnswers.{AreNone, first_answered}
-
--- parts may be put together in any grouping
-pub regrouped : {X : Type 0} (front c rest : Checked (List X))
-    → rejoined (rejoined front c) rest ≡ rejoined front (rejoined c rest)
-regrouped (Fits xs ns) (Fits ys ms) (Fits zs ks) = fits_same ((xs ++ ys) ++ zs) (xs ++ (ys ++ zs))
-    ((((ns ++ ms) ++ []) ++ ks) ++ []) ((ns ++ ((ms ++ ks) ++ [])) ++ []) (append_assoc xs ys zs)
-    (notes_same ns ms ks)
-regrouped (Fits xs ns) (Fits ys ms) (Fails h hs) = refl
-regrouped (Fits xs ns) (Fails g gs) (Fits zs ks) = refl
-regrouped (Fits xs ns) (Fails g gs) (Fails h hs) = refl
-regrouped (Fails f fs) (Fits ys ms) (Fits zs ks) = ap (λ xs. Fails f (xs ++ [])) (append-nil fs)
-regrouped (Fails f fs) (Fits ys ms) (Fails h hs) = ap (λ xs. Fails f (xs ++ h ∷ hs)) (append-nil fs)
-regrouped (Fails f fs) (Fails g gs) (Fits zs ks) = ap (Fails f) (append_assoc fs (g ∷ gs) [])
-regrouped (Fails f fs) (Fails g gs) (Fails h hs) = ap (Fails f) (append_assoc fs (g ∷ gs) (h ∷ hs))
-
-pub none_before : {X : Type 0} (rest : Checked (List X)) → rejoined (fits []) rest ≡ rest
-none_before (Fits xs ks) = ap (Fits xs) (append-nil ks)
-none_before (Fails h hs) = refl
+pub use Rattle.c_check_declarations.proofs.Lists.{next_some as regrouped, first_rejoined as none_before}
 
 pub none_behind : {X : Type 0} (front : Checked (List X)) → rejoined front (fits []) ≡ front
 none_behind (Fits xs ns) = fits_same (xs ++ []) xs ((ns ++ []) ++ []) ns (append-nil xs)

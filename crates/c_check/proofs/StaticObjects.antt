@@ -35,6 +35,7 @@ use Rattle.c_check_declarations.proofs.Rows.{also_said, answered_is, fails_said,
 use Rattle.c_check_declarations.specs.ItemAnswers.{IsAnything}
 use Rattle.c_check.specs.OutsideAnswers.{AreNone}
 use Rattle.c_check.specs.Objects.{bound_if_any}
+use Rattle.c_check_declarations.proofs.Itemised.{next_item}
 
 -- ---- an object of an allowed type
 
@@ -190,12 +191,6 @@ object_fits_scope s t said i j d before between h is l =
     (sym (answered_is declared_of c (answers.Fits d) stands.0))
 
 -- ---- lists of items
-
-next_item : (is : List RawItem) (n : ℕ) (i : RawItem) → n < length is → i ≡ get_or is n i
-    → drop n is ≡ i ∷ drop (n + 1) is
-next_item is n i lt same =
-    let e : suc n ≡ n + 1 = omega arith in
-    drop-cons is n i lt ∙ ap (λ q. q ∷ drop (suc n) is) (sym same) ∙ ap (λ k. i ∷ drop k is) e
 
 abbrev pub one_item : types.Specified → ItemTree → Scope → Checked (List Defined)
 one_item said i s = typed_outer_item said i i.declarator.part s

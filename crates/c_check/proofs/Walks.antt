@@ -11,6 +11,7 @@ use Rattle.c_tree.specs.declared.types.ValueType.{ValueType}
 use Rattle.c_typing.specs.Faults.{earlier, least}
 use Rattle.c_typing.specs.Numbering.{filled}
 use Rattle.c_typing.specs.Types.{same_values}
+pub use Rattle.c_check_laws.proofs.Finding.{filled_length as length_filled}
 
 -- the least of what a test gives, with one more before
 pub least_more : {X : Type 0} (h : X → Option Fault) (x : X) (xs : List X)
@@ -30,11 +31,6 @@ one_filled (suc n) (v ∷ vs) = ap (λ xs. v ∷ xs) (one_filled n vs)
 
 pub filled_more : (n : ℕ) (vs : List ℤ) → filled (n + 1) vs ≡ filled n vs ++ get_or vs n (pos 0) ∷ []
 filled_more n vs = let e : n + 1 ≡ suc n = omega arith in ap (λ m. filled m vs) e ∙ one_filled n vs
-
-pub length_filled : (n : ℕ) (vs : List ℤ) → length (filled n vs) ≡ n
-length_filled zero vs = refl
-length_filled (suc n) [] = ap suc (length_filled n [])
-length_filled (suc n) (v ∷ vs) = ap suc (length_filled n vs)
 
 -- ---- one element of a list, from either end
 

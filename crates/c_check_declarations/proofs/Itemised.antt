@@ -124,7 +124,7 @@ item_fits_scope s t said i b j d before between h is static row =
 
 -- ---- lists of items
 
-next_item : (is : List RawItem) (n : ℕ) (i : RawItem) → n < length is → i ≡ get_or is n i
+pub next_item : (is : List RawItem) (n : ℕ) (i : RawItem) → n < length is → i ≡ get_or is n i
     → drop n is ≡ i ∷ drop (n + 1) is
 next_item is n i lt same =
     let e : suc n ≡ n + 1 = omega arith in

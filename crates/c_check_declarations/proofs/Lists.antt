@@ -45,7 +45,7 @@ next_one (Fails f fs) (Fits x ms) (Fails h hs) = ap (λ xs. Fails f (xs ++ h ∷
 next_one (Fails f fs) (Fails g gs) (Fits ys ks) = ap (Fails f) (append_assoc fs (g ∷ gs) [])
 next_one (Fails f fs) (Fails g gs) (Fails h hs) = ap (Fails f) (append_assoc fs (g ∷ gs) (h ∷ hs))
 
-next_some : {X : Type 0} (front c rest : Checked (List X))
+pub next_some : {X : Type 0} (front c rest : Checked (List X))
     → rejoined (rejoined front c) rest ≡ rejoined front (rejoined c rest)
 next_some (Fits xs ns) (Fits ys ms) (Fits zs ks) = fits_same ((xs ++ ys) ++ zs) (xs ++ (ys ++ zs))
     ((((ns ++ ms) ++ []) ++ ks) ++ []) ((ns ++ ((ms ++ ks) ++ [])) ++ []) (append_assoc xs ys zs)
@@ -58,7 +58,7 @@ next_some (Fails f fs) (Fits ys ms) (Fails h hs) = ap (λ xs. Fails f (xs ++ h �
 next_some (Fails f fs) (Fails g gs) (Fits zs ks) = ap (Fails f) (append_assoc fs (g ∷ gs) [])
 next_some (Fails f fs) (Fails g gs) (Fails h hs) = ap (Fails f) (append_assoc fs (g ∷ gs) (h ∷ hs))
 
-first_rejoined : {X : Type 0} (rest : Checked (List X)) → rejoined (fits []) rest ≡ rest
+pub first_rejoined : {X : Type 0} (rest : Checked (List X)) → rejoined (fits []) rest ≡ rest
 first_rejoined (Fits xs ks) = ap (Fits xs) (append-nil ks)
 first_rejoined (Fails h hs) = refl
 

@@ -28,7 +28,7 @@ use Rattle.c_typing.specs.Rows.{binary_row, element_of, index_row, conditional_r
 use Rattle.c_typing.specs.Rows.{to_place_row, assignment_row, assigned, place_named}
 use Rattle.c_check_expressions.specs.Said.{IsQuiet}
 
-quiet_if : {A : Type 0} (b : Bool) (c d : Checked A) → IsQuiet c → IsQuiet d → IsQuiet (if b then c else d)
+pub quiet_if : {A : Type 0} (b : Bool) (c d : Checked A) → IsQuiet c → IsQuiet d → IsQuiet (if b then c else d)
 quiet_if true c d h k = h
 quiet_if false c d h k = k
 

@@ -36,6 +36,11 @@ use Rattle.std.proofs.lemmas.List.Sums.{sum_by-cons}
 use Rattle.c_tree.specs.Program.{Scalar, Array}
 use Rattle.c_tree.specs.Sizes.{first_size, item_size, statement_size, statements_size}
 use Rattle.c_typing.proofs.CountUp.{Always, IfFits, always, holds_also, holds_both, holds_if, holds_noted, holds_pair}
+use Rattle.c_typing.proofs.CountUp.{row_from}
+use Rattle.c_typing.proofs.CountUp.{items_on}
+use Rattle.c_typing.proofs.CountUp.{alone_from}
+use Rattle.c_typing.proofs.CountUp.{one_from}
+use Rattle.c_typing.proofs.CountUp.{as_one_from}
 
 -- how many arrays a scope has
 abbrev pub many : Scope → ℕ
@@ -112,9 +117,6 @@ item_from said i s =
     (declared_from (is_static said.storage) s (after_item said i s) i.declarator.name i.initialiser
     (scope_faults s i.declarator.name) (object_declared s said i.declarator i.initialiser))
 
-items_on : (n k m : ℕ) (xs ys : List Item) → ItemsFrom n k xs → ItemsFrom k m ys → ItemsFrom n m (xs ++ ys)
-items_on n k m xs ys h g = let e = length-append xs ys in omega (arith, h, g, e)
-
 items_from : (said : Specified) (is : List ItemTree) (s : Scope)
     → IfFits (ItemsFrom (many s) (many (after_items said is s))) (typed_items said is s)
 items_from said [] s = omega arith
@@ -151,27 +153,10 @@ OneFrom n m st = m ≤ n + statement_size st
 abbrev pub RowFrom : ℕ → ℕ → Statements → Type 0
 RowFrom n m sts = m ≤ n + statements_size sts
 
-one_from : (n m : ℕ) (c : Checked Statement) → IfFits (OneFrom n m) c → IfFits (ListFrom n m) (one c)
-one_from n m c h =
-    holds_if (OneFrom n m) (ListFrom n m) c (λ st. fits (st ∷ [])) h (λ st x. omega (arith, x))
-
-row_size : (sts : List Statement) (rest : Statements)
+pub row_size : (sts : List Statement) (rest : Statements)
     → statements_size (row_before sts rest) ≡ list_size sts + statements_size rest
 row_size [] rest = omega arith
 row_size (st ∷ sts) rest = let h = row_size sts rest in omega (arith, h)
-
-row_from : (n k m : ℕ) (sts : List Statement) (rest : Statements) → ListFrom n k sts → RowFrom k m rest
-    → RowFrom n m (row_before sts rest)
-row_from n k m sts rest h g = let e = row_size sts rest in omega (arith, h, g, e)
-
-as_one_from : (n m : ℕ) (sts : List Statement) → ListFrom n m sts → OneFrom n m (as_one sts)
-as_one_from n m [] h = h
-as_one_from n m (st ∷ []) h = omega (arith, h)
-as_one_from n m (st ∷ (other ∷ sts)) h = row_from n m m (st ∷ (other ∷ sts)) Done h (omega arith)
-
-alone_from : (n m : ℕ) (c : Checked (List Statement)) → IfFits (ListFrom n m) c → IfFits (OneFrom n m) (alone c)
-alone_from n m c h =
-    holds_if (ListFrom n m) (OneFrom n m) c (λ sts. fits (as_one sts)) h (λ sts x. as_one_from n m sts x)
 
 -- a statement that declares nothing itself
 with_test : {A : Type 0} (n m : ℕ) (c : Checked A) (d : Checked Statement) (f : A → Statement → Statement)

@@ -16,7 +16,7 @@ use Rattle.c_typing.specs.Types.{same_value, same_values, same_pointed, same_typ
 use Rattle.c_typing.specs.Types.{DeclaredArray, DeclaredFunction}
 use Rattle.c_check_laws.proofs.RowsSound.{either_false, not_true, same_integer_is}
 
-number_is : (m n : ℕ) → (m == n) ≡ true → m ≡ n
+pub number_is : (m n : ℕ) → (m == n) ≡ true → m ≡ n
 number_is m n = (Decides-eqb m n).0
 
 number_itself : (m : ℕ) → (m == m) ≡ true

@@ -39,6 +39,7 @@ use Rattle.c_check_laws.proofs.Setting.{Setting, Holds, Sound, sound_fits, sound
 use Rattle.c_check_laws.proofs.Setting.{sound_weaker, fits_first, fits_part}
 use Rattle.c_check_laws.proofs.RowsSound.{Good, not_true, assigned_sound, names_where, unary_sound, step_sound, cast_sound}
 use Rattle.c_check_laws.proofs.RowsSound.{binary_sound, index_sound, conditional_sound, assignment_sound}
+use Rattle.c_check_laws.proofs.Entities.{number_is as equal_is}
 
 pub is_some_on : {A : Type 0} (P Q : A → Type 0) (o : Option A) → IsSomeAnd o P → ((a : A) → P a → Q a) → IsSomeAnd o Q
 is_some_on P Q None h f = absurd h
@@ -64,9 +65,6 @@ no_fault true true f h e = refl
 no_fault true false f h e = not_none f e
 no_fault false c f h e = not_true h
 
-equal_is : (m n : ℕ) → (m == n) ≡ true → m ≡ n
-equal_is m n h = grind (arith, nat_tests)
-
 counted : (at : Span) (types : List ValueType) (gs : List Given) → has_type (arguments_for types gs) ≡ true
     → count_faults at types gs ≡ [] → length types ≡ length gs
 counted at types gs h e =
@@ -84,7 +82,7 @@ lengths_differ n e = grind arith
 lengths_differ_back : (n : ℕ) → 0 ≡ suc n → ⊥
 lengths_differ_back n e = grind arith
 
-lengths_less : (m n : ℕ) → suc m ≡ suc n → m ≡ n
+pub lengths_less : (m n : ℕ) → suc m ≡ suc n → m ≡ n
 lengths_less m n e = omega (arith, e)
 
 -- nothing is said of the tree

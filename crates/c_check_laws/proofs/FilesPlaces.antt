@@ -80,6 +80,7 @@ use Rattle.c_check_laws.proofs.Growing.{Counts, part_counts, ObjectCounts, allow
 use Rattle.c_check_laws.proofs.Places.{placed_knowing, one_more}
 use Rattle.c_check_laws.proofs.Ranges.{InRange}
 use Rattle.c_check_laws.proofs.Ranged.{HasInts, ints_left, ints_right, ranged, Fitting, text_fits, constant_fits}
+pub use Rattle.c_check_laws.proofs.ExpressionsSound.{lengths_less as one_less}
 
 -- ---- initialisers
 
@@ -382,9 +383,6 @@ item_placed said i h s =
 
 pub few_commas : (n : ℕ) → 0 ≡ suc n → ⊥
 few_commas n e = grind arith
-
-pub one_less : (m n : ℕ) → suc m ≡ suc n → m ≡ n
-one_less m n e = omega (arith, e)
 
 followed_placed : (said : Specified) (is : List ItemTree) → AllByRecursion IsItem is → (commas : List Span)
     → length commas ≡ length is → (s : Scope) → Placed (followed item_tokens is commas) (typed_items said is s)

@@ -120,7 +120,7 @@ pub also_none : {A : Type 0} (P : A → Type 0) (fs : List _) (c : Checked A) �
 also_none P [] c h = h refl
 also_none P (f ∷ fs) c h = tt
 
-none_first : {A : Type 0} (xs ys : List A) → xs ++ ys ≡ [] → xs ≡ []
+pub none_first : {A : Type 0} (xs ys : List A) → xs ++ ys ≡ [] → xs ≡ []
 none_first [] ys e = refl
 none_first (x ∷ xs) ys e = grind arith
 

@@ -41,7 +41,7 @@ pub fact : {A : Type 0} (Q : Type 0) (c : Checked A) → Q → IfFits (λ (a : A
 fact Q (Fits a ns) q = q
 fact Q (Fails f fs) q = tt
 
-none_false : (b : Bool) (f : Fault) → (if b then f ∷ [] else []) ≡ [] → b ≡ false
+pub none_false : (b : Bool) (f : Fault) → (if b then f ∷ [] else []) ≡ [] → b ≡ false
 none_false true f e = grind arith
 none_false false f e = refl
 
@@ -55,7 +55,7 @@ not_redeclared s name o e h =
 abbrev Keeps : Scope → Scope → Type 0
 Keeps s t = AreOne s.outer → AreOne t.outer
 
-allowed_outer : (name : Identifier) (o : Outer) (type : Option ObjectType) (s : Scope)
+pub allowed_outer : (name : Identifier) (o : Outer) (type : Option ObjectType) (s : Scope)
     → (bound_allowed name o type s).outer ≡ s.outer
 allowed_outer name o None s = refl
 allowed_outer name o (Some (IntegerObject of)) s = refl

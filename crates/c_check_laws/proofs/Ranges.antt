@@ -31,7 +31,7 @@ use Rattle.c_typing.specs.Constants.{constant_value}
 use Rattle.c_typing.specs.Laws.{IsInt}
 use Rattle.c_check_laws.proofs.RowsSound.{not_true}
 
-fits_int : (n : ℤ) → FitsSigned w32 n → IsInt n
+pub fits_int : (n : ℤ) → FitsSigned w32 n → IsInt n
 fits_int n h = (omega (arith, ints, h.sfits), omega (arith, ints, h.sfits))
 
 pub wrap_int : (z : ℤ) → IsInt (int_wrap w32 z)

@@ -24,6 +24,7 @@ use Rattle.c_check_expressions.proofs.Gathering.{fits_same}
 use Rattle.c_check_declarations.proofs.Lists.{notes_same}
 use Rattle.c_check_statements.specs.Answers.{AreListed, AreStatements}
 use Rattle.c_check_statements.specs.Together.{joined}
+use Rattle.c_check_statements.proofs.Ones.{all_row}
 
 -- statements before others
 abbrev pub rejoined : Checked (List Statement) → Checked Statements → Checked Statements
@@ -49,10 +50,6 @@ next_rejoined (Fails f fs) (Fails g gs) (Fails h hs) = ap (Fails f) (append_asso
 first_rejoined : (rest : Checked Statements) → rejoined (fits []) rest ≡ rest
 first_rejoined (Fits xs ks) = ap (Fits xs) (append-nil ks)
 first_rejoined (Fails h hs) = refl
-
-all_row : (vs : List Built) → statements_of vs ≡ row_before (map statement_of vs) Done
-all_row [] = refl
-all_row (v ∷ vs) = ap (λ (rest : Statements). Next (statement_of v) rest) (all_row vs)
 
 last_rejoined : (front : Checked (List Statement)) (j : Judged (Vec Built Global)) (before after : List Note)
     → IsSaid AreListed front j before after → IsSaid AreStatements (rejoined front (fits Done)) j before after

@@ -31,7 +31,7 @@ module _ {X A : Type 0} (R : X → A → Type 0) (f : X → Statement) where
       plain (answers.Fails g) h = h
   one_said (Fails g gs) a b j before after is row said = absurd said.0
 
-all_row : (vs : List Built) → statements_of vs ≡ row_before (map statement_of vs) Done
+pub all_row : (vs : List Built) → statements_of vs ≡ row_before (map statement_of vs) Done
 all_row [] = refl
 all_row (v ∷ vs) = ap (λ (rest : Statements). Next (statement_of v) rest) (all_row vs)
 

@@ -7,10 +7,7 @@ use Rattle.c_tree.specs.Program.{Expression, value_type}
 use Rattle.c_typing.specs.Checked.{Checked, fits}
 use Rattle.c_typing.specs.Rows.{is_scalar, misfit, selected, tested}
 use Rattle.c_check_expressions.specs.Said.{IsQuiet}
-
-quiet_if : {A : Type 0} (b : Bool) (c d : Checked A) → IsQuiet c → IsQuiet d → IsQuiet (if b then c else d)
-quiet_if true c d h k = h
-quiet_if false c d h k = k
+use Rattle.c_check_expressions.proofs.Quiet.{quiet_if}
 
 pub quiet_tested : (at : Span) (e : Expression) → IsQuiet (tested at e)
 quiet_tested at e = quiet_if (is_scalar (value_type e)) (fits e) (misfit at (value_type e ∷ [])) refl tt

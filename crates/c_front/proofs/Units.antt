@@ -22,7 +22,7 @@ units_of file (text ∷ texts) (tokens ∷ files) (unit ∷ units) (lexed, other
     ((tokens, height, lexed, tree), units_of (suc file) texts files units others trees)
 
 -- so many tokens they have
-total_is : (files : List (List Token)) (units : List (List ExternalTree)) → HaveTrees files units
+pub total_is : (files : List (List Token)) (units : List (List ExternalTree)) → HaveTrees files units
     → length (flat_map unit_tokens units) ≡ total files
 total_is [] [] trees = refl
 total_is [] (unit ∷ units) trees = absurd trees

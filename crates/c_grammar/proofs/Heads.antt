@@ -166,11 +166,11 @@ expression_no_specifiers t rest is = (let h = head_of t is in rw (h.is, no_speci
 
 -- ---- what is no cast
 
-no_opening : (height : ℕ) (below : Readers) (ts : List Token) → take_mark marks.LeftParen ts ≡ None
+pub no_opening : (height : ℕ) (below : Readers) (ts : List Token) → take_mark marks.LeftParen ts ≡ None
     → read_cast height below ts ≡ read_unary height below ts
 no_opening height below ts e = rw e refl
 
-unary_no_paren : (op : UnaryOp) (at : Span) (ts : List Token) → take_mark marks.LeftParen (mark (unary_mark op) at ∷ ts)
+pub unary_no_paren : (op : UnaryOp) (at : Span) (ts : List Token) → take_mark marks.LeftParen (mark (unary_mark op) at ∷ ts)
     ≡ None
 unary_no_paren unary.AddressOf at ts = refl
 unary_no_paren unary.Dereference at ts = refl
@@ -179,7 +179,7 @@ unary_no_paren unary.Minus at ts = refl
 unary_no_paren unary.Complement at ts = refl
 unary_no_paren unary.Not at ts = refl
 
-step_no_paren : (op : StepOp) (at : Span) (ts : List Token) → take_mark marks.LeftParen (mark (step_mark op) at ∷ ts)
+pub step_no_paren : (op : StepOp) (at : Span) (ts : List Token) → take_mark marks.LeftParen (mark (step_mark op) at ∷ ts)
     ≡ None
 step_no_paren step.Increment at ts = refl
 step_no_paren step.Decrement at ts = refl

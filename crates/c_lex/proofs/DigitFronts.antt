@@ -24,7 +24,7 @@ digit_read number base of worth digit next e f is small =
     is small ∙ ap (λ (b : ℕ). number * b + worth) e ∙ ap (λ (d : ℕ). number * of + d) f
 
 -- a number grows by the digits behind it
-number_grows : (base n : ℕ) (ds : List ℕ) → 0 < base → n ≤ number_after base n ds
+pub number_grows : (base n : ℕ) (ds : List ℕ) → 0 < base → n ≤ number_after base n ds
 number_grows base n [] h = omega arith
 number_grows base n (d ∷ ds) h =
     let grows : n ≤ n * base + digit_worth d = omega (arith, mul-le-mul_left n h) in

@@ -23,6 +23,8 @@ use Rattle.c_lex.specs.declared.radix.Radix.{Radix}
 use Rattle.c_lex.specs.declared.radix.Radix.TheVariants.{Octal, Decimal, Hexadecimal}
 use Rattle.c_lex.specs.Radixes.{base_of}
 use Rattle.c_lex.proofs.PieceStarts.{piece_starts, same_first}
+use Rattle.c_lex.proofs.DigitFronts.{number_grows as after_grows}
+pub use Rattle.c_lex.proofs.DigitFronts.{base_above as base_some}
 
 -- ---- how far a preprocessing number goes
 
@@ -195,24 +197,12 @@ start_fits rest start (inr h) = omega (arith, h.0, h.1)
 
 -- ---- the value of a constant
 
-after_grows : (base n : ℕ) (ds : List ℕ) → 0 < base → n ≤ number_after base n ds
-after_grows base n [] some = omega arith
-after_grows base n (d ∷ ds) some =
-    let more = after_grows base (n * base + digit_worth d) ds some in
-    let grown : n * 1 ≤ n * base = mul-le-mul_left n some in
-    omega (arith, more, grown)
-
 -- what digits spell is no less than what the first of them do
 pub value_grows : (base v : ℕ) (ds : List ℕ) (i : ℕ) → 0 < base → i < length ds → v * base + digit_worth (get_or ds i 0)
     ≤ number_after base v (drop i ds)
 value_grows base v ds i some less =
     rw (at_drop_more (number_after base v) ds i 0 less)
     (after_grows base (v * base + digit_worth (get_or ds i 0)) (drop (i + 1) ds) some)
-
-pub base_some : (radix : Radix) → 0 < base_of radix
-base_some Octal = omega arith
-base_some Decimal = omega arith
-base_some Hexadecimal = omega arith
 
 -- ---- integer constants as pieces
 

@@ -1,9 +1,10 @@
 -- What the operators give (C99 6.5.3 to 6.5.16). Sums, differences, products and negations wrap at 32 bits.
-use Rattle.std.specs.Prelude.{ℕ, ◌/◌, ◌%◌, ◌^◌, ◌==◌, Bool, true, false, ◌&&◌, not, ℤ, pos, negsuc, ◌+ℤ◌, ◌-ℤ◌, ◌*ℤ◌}
-use Rattle.std.specs.Prelude.{◌-◌, neg_ℤ, int_lt, int_div, int_rem, if◌then◌else◌}
+use Rattle.std.specs.Prelude.{◌^◌, Bool, ◌&&◌, not, ℤ, pos, ◌+ℤ◌, ◌-ℤ◌, ◌*ℤ◌}
+use Rattle.std.specs.Prelude.{neg_ℤ, int_lt, int_div, int_rem, if◌then◌else◌}
 use Rattle.std.specs.Int.{w32, int_wrap, int_bit_and, int_bit_or, int_bit_xor, int_bit_not}
 use Rattle.std.specs.Ordering.{int_eq}
-use Rattle.pcc_base.specs.Outcome.{ArrayName, Null, Static, InFrame, Unknown}
+pub use Rattle.pcc_base.specs.Arithmetic.{no_quotient, same_array, shift_count, shifted_right}
+use Rattle.pcc_base.specs.Outcome.{ArrayName, Null}
 use Rattle.pcc_base.specs.declared.run.Trap.{Trap}
 use Rattle.pcc_base.specs.declared.run.Trap.TheVariants.{Divide, Check}
 use Rattle.c_tree.specs.declared.expression.BinaryOp.{BinaryOp}
@@ -32,13 +33,6 @@ truth b = number (if b then pos 1 else pos 0)
 
 -- ---- tests
 
-abbrev pub same_array : ArrayName → ArrayName → Bool
-same_array Null Null = true
-same_array (Static k) (Static l) = k == l
-same_array (InFrame k depth) (InFrame l other) = k == l && depth == other
-same_array Unknown Unknown = true
-same_array _ _ = false
-
 -- A number counts as true where it isn't 0, and a pointer where it isn't null (C99 6.5.3.3, 6.8.4.1).
 abbrev pub is_true : Held → Bool
 is_true (HoldsNumber n) = not (int_eq n (pos 0))
@@ -61,26 +55,13 @@ unary_value of _ (HoldsPointer array index) = HoldsNumber (pos 0)
 
 -- ---- two numbers (C99 6.5.5 to 6.5.12)
 
--- A zero divisor traps, and so does the quotient that doesn't fit.
-abbrev pub no_quotient : ℤ → ℤ → Bool
-no_quotient a b = if int_eq b (pos 0) then true else int_eq a (negsuc 0x7fffffff) && int_eq b (negsuc 0)
-
 abbrev pub quotient : ℤ → ℤ → Computed
 quotient a b = if no_quotient a b then Traps Divide else number (int_div a b)
 
 abbrev pub remainder : ℤ → ℤ → Computed
 remainder a b = if no_quotient a b then Traps Divide else number (int_rem a b)
 
--- a shift count is taken modulo 32: the remainder that is not negative
-abbrev pub shift_count : ℤ → ℕ
-shift_count (pos n) = n % 32
-shift_count (negsuc n) = 31 - n % 32
-
--- `>>` is arithmetic: it rounds down
-abbrev pub shifted_right : ℤ → ℕ → ℤ
-shifted_right (pos n) k = pos (n / 2 ^ k)
-shifted_right (negsuc n) k = negsuc (n / 2 ^ k)
-
+-- `>>` is arithmetic
 abbrev pub numbers_value : BinaryOp → ℤ → ℤ → Computed
 numbers_value Multiply a b = number (int_wrap w32 (a *ℤ b))
 numbers_value Division a b = quotient a b

@@ -1,8 +1,9 @@
 -- What a program holds while it runs, and how far it has come (C99 5.1.2.3 and 6.2.4).
-use Rattle.std.specs.Prelude.{ℕ, zero, suc, ◌==◌, ℤ, pos, negsuc, List, [], ◌∷◌, ◌++◌, length, map, replicate}
+use Rattle.std.specs.Prelude.{ℕ, zero, suc, ◌==◌, ℤ, pos, List, [], ◌∷◌, ◌++◌, length, map, replicate}
 use Rattle.std.specs.Prelude.{slice_get}
 use Rattle.std.specs.Prelude.{slice_set, slice_index_or, Option, Some, None, if◌then◌else◌}
 use Rattle.std.specs.Int.{w8, w16, int_wrap}
+pub use Rattle.pcc_base.specs.Arithmetic.{element_at, with_element}
 use Rattle.pcc_base.specs.Outcome.{End, Goes, Trapped, ArrayName, Value, Number, Part, Visit, Listing}
 use Rattle.pcc_base.specs.Outcome as outcome
 use Rattle.pcc_base.specs.declared.run.Trap.TheVariants.{Check}
@@ -123,15 +124,6 @@ with_array outcome.Unknown elements s = s
 abbrev pub array_of : State → ArrayRef → ArrayName
 array_of s (refs.Static k) = outcome.Static k
 array_of s (refs.Frame k) = outcome.InFrame k (length s.active)
-
--- the element at an index, where there is one
-abbrev pub element_at : List ℤ → ℤ → Option ℤ
-element_at elements (pos i) = slice_get elements i
-element_at elements (negsuc i) = None
-
-abbrev pub with_element : List ℤ → ℤ → ℤ → List ℤ
-with_element elements (pos i) value = slice_set elements i value
-with_element elements (negsuc i) value = elements
 
 -- ---- the start of a call
 

@@ -154,7 +154,7 @@ item_from said i s =
     (declared_from (is_static said.storage) s (after_item said i s) i.declarator.name i.initialiser
     (scope_faults s i.declarator.name) (object_declared s said i.declarator i.initialiser))
 
-items_on : (n k m : ℕ) (xs ys : List Item) → ItemsFrom n k xs → ItemsFrom k m ys → ItemsFrom n m (xs ++ ys)
+pub items_on : (n k m : ℕ) (xs ys : List Item) → ItemsFrom n k xs → ItemsFrom k m ys → ItemsFrom n m (xs ++ ys)
 items_on n k m [] ys h g = subst (λ i. ItemsFrom i m ys) (sym h) g
 items_on n k m (x ∷ xs) ys h g = (h.0, items_on (suc n) k m xs ys h.1 g)
 
@@ -198,7 +198,7 @@ from_nil : (n m : ℕ) (xs : List ℕ) → From n (xs ++ []) m → From n xs m
 from_nil n m [] h = h
 from_nil n m (x ∷ xs) h = (h.0, from_nil (suc n) m xs h.1)
 
-one_from : (n m : ℕ) (c : Checked Statement) → IfFits (OneFrom n m) c → IfFits (ListFrom n m) (one c)
+pub one_from : (n m : ℕ) (c : Checked Statement) → IfFits (OneFrom n m) c → IfFits (ListFrom n m) (one c)
 one_from n m c h =
     holds_if (OneFrom n m) (ListFrom n m) c (λ st. fits (st ∷ [])) h
     (λ st x. from_on n m m (statement_numbers st) [] x refl)
@@ -208,7 +208,7 @@ pub from_split : (n m : ℕ) (xs ys : List ℕ) → From n (xs ++ ys) m → (k :
 from_split n m [] ys h = (n, refl, h)
 from_split n m (x ∷ xs) ys h = let r = from_split (suc n) m xs ys h.1 in (r.0, (h.0, r.1), r.2)
 
-row_from : (n k m : ℕ) (sts : List Statement) (rest : Statements) → ListFrom n k sts → RowFrom k m rest
+pub row_from : (n k m : ℕ) (sts : List Statement) (rest : Statements) → ListFrom n k sts → RowFrom k m rest
     → RowFrom n m (row_before sts rest)
 row_from n k m [] rest h g = subst (λ i. RowFrom i m rest) (sym h) g
 row_from n k m (st ∷ sts) rest h g =
@@ -216,12 +216,12 @@ row_from n k m (st ∷ sts) rest h g =
     from_on n r.0 m (statement_numbers st) (statements_numbers (row_before sts rest)) r.1
     (row_from r.0 k m sts rest r.2 g)
 
-as_one_from : (n m : ℕ) (sts : List Statement) → ListFrom n m sts → OneFrom n m (as_one sts)
+pub as_one_from : (n m : ℕ) (sts : List Statement) → ListFrom n m sts → OneFrom n m (as_one sts)
 as_one_from n m [] h = h
 as_one_from n m (st ∷ []) h = from_nil n m (statement_numbers st) h
 as_one_from n m (st ∷ (other ∷ sts)) h = row_from n m m (st ∷ (other ∷ sts)) Done h refl
 
-alone_from : (n m : ℕ) (c : Checked (List Statement)) → IfFits (ListFrom n m) c → IfFits (OneFrom n m) (alone c)
+pub alone_from : (n m : ℕ) (c : Checked (List Statement)) → IfFits (ListFrom n m) c → IfFits (OneFrom n m) (alone c)
 alone_from n m c h =
     holds_if (ListFrom n m) (OneFrom n m) c (λ sts. fits (as_one sts)) h (λ sts x. as_one_from n m sts x)
 

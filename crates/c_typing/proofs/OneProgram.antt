@@ -20,17 +20,17 @@ one_typed_program units p q h k = ap (λ o. unwrap_or o p) (sym h.is ∙ k.is)
 
 -- ---- no fault leads to a typed program
 
-some_is_none : {A : Type 0} (x : A) → Some x ≡ None → ⊥
+pub some_is_none : {A : Type 0} (x : A) → Some x ≡ None → ⊥
 some_is_none x e = grind arith
 
-none_both : (f g : Option Fault) → or_else f g ≡ None → (f ≡ None) × (g ≡ None)
+pub none_both : (f g : Option Fault) → or_else f g ≡ None → (f ≡ None) × (g ≡ None)
 none_both None g e = (refl, e)
 none_both (Some f) g e = absurd (some_is_none f e)
 
-no_faults : (fs : List Fault) → least fs ≡ None → fs ≡ []
+pub no_faults : (fs : List Fault) → least fs ≡ None → fs ≡ []
 no_faults fs e = subst (IsLeastOf fs) e (least_is_least fs)
 
-main_there : (b : Bool) (end : Span) → no_main b end ≡ None → b ≡ true
+pub main_there : (b : Bool) (end : Span) → no_main b end ≡ None → b ≡ true
 main_there true end e = refl
 main_there false end e = absurd (some_is_none (fault NoMain end) e)
 

@@ -58,7 +58,7 @@ distinct-without x (p ∷ ps) d =
     )
 
 -- a point that is no end, before points of which only the last may be one
-ends-cons : (ops : List Op) (p : ℕ) (ps : List ℕ) → IsPlainAt ops p → EndsOnlyLast ops ps → EndsOnlyLast ops (p ∷ ps)
+pub ends-cons : (ops : List Op) (p : ℕ) (ps : List ℕ) → IsPlainAt ops p → EndsOnlyLast ops ps → EndsOnlyLast ops (p ∷ ps)
 ends-cons ops p [] h e = tt
 ends-cons ops p (q ∷ ps) h e = (h, e)
 

@@ -1,11 +1,12 @@
 -- What each op does: one step from a state.
-use Rattle.std.specs.Prelude.{ℕ, ◌+◌, ◌/◌, ◌%◌, ◌^◌, ◌==◌, Bool, true, false, ◌&&◌, not, ℤ, pos, negsuc, ◌+ℤ◌, ◌-ℤ◌}
+use Rattle.std.specs.Prelude.{ℕ, ◌+◌, ◌/◌, ◌%◌, ◌^◌, ◌==◌, Bool, not, ℤ, pos, negsuc, ◌+ℤ◌, ◌-ℤ◌}
 use Rattle.std.specs.Prelude.{◌*ℤ◌, neg_ℤ, int_lt, int_div, int_rem, List, [], ◌∷◌, ◌++◌, length, replicate, slice_get}
-use Rattle.std.specs.Prelude.{Option, Some, None, ◌-◌, nat_le, nat_lt, if◌then◌else◌}
+use Rattle.std.specs.Prelude.{Option, Some, None, nat_le, nat_lt, if◌then◌else◌}
 use Rattle.std.specs.Int.{w8, w16, w32, int_wrap, int_bit_and, int_bit_or, int_bit_xor, int_bit_not, cast_signed}
 use Rattle.std.specs.Int.{cast_unsigned}
 use Rattle.std.specs.Ordering.{int_eq}
-use Rattle.pcc_base.specs.Outcome.{End, Ended, Trapped, ArrayName, Null, Static, InFrame, Unknown, Value, Number, Array}
+pub use Rattle.pcc_base.specs.Arithmetic.{no_quotient, same_array, shift_count, shifted_right}
+use Rattle.pcc_base.specs.Outcome.{End, Ended, Trapped, ArrayName, Null, Static, InFrame, Value, Number, Array}
 use Rattle.pcc_base.specs.declared.run.Trap.TheVariants.{Divide, Check}
 use Rattle.flow_graph.specs.declared.op.Bits.{Bits}
 use Rattle.flow_graph.specs.declared.op.Bits.TheVariants.{Eight, Sixteen, ThirtyTwo}
@@ -58,20 +59,6 @@ two_numbers program s d a b f = given (number_at s a)
     (λ x. given (number_at s b) (λ y. sets program s d (Number (f x y))))
 
 -- ---- arithmetic
-
--- a count is taken modulo 32: the remainder that is not negative
-abbrev pub shift_count : ℤ → ℕ
-shift_count (pos n) = n % 32
-shift_count (negsuc n) = 31 - n % 32
-
--- an arithmetic shift to the right rounds down
-abbrev pub shifted_right : ℤ → ℕ → ℤ
-shifted_right (pos n) k = pos (n / 2 ^ k)
-shifted_right (negsuc n) k = negsuc (n / 2 ^ k)
-
--- A zero divisor traps, and so does the quotient that doesn't fit.
-abbrev pub no_quotient : ℤ → ℤ → Bool
-no_quotient a b = if int_eq b (pos 0) then true else int_eq a (negsuc 0x7fffffff) && int_eq b (negsuc 0)
 
 -- a number of two others that traps for some of them
 abbrev pub divided_unless : (ℤ → ℤ → Bool) → GraphProgram → State → ℕ → ℕ → ℕ → (ℤ → ℤ → ℤ) → Moved
@@ -129,13 +116,6 @@ compared Lt x y = int_lt x y
 compared Le x y = not (int_lt y x)
 compared Gt x y = int_lt y x
 compared Ge x y = not (int_lt x y)
-
-abbrev pub same_array : ArrayName → ArrayName → Bool
-same_array Null Null = true
-same_array (Static k) (Static l) = k == l
-same_array (InFrame k depth) (InFrame l other) = k == l && depth == other
-same_array Unknown Unknown = true
-same_array _ _ = false
 
 abbrev pub both : {A B : Type 0} → Option A → Option A → (A → A → B) → Option B
 both (Some x) (Some y) f = Some (f x y)

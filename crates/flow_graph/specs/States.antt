@@ -1,8 +1,9 @@
 -- The states of a program of graphs.
-use Rattle.std.specs.Prelude.{ℕ, suc, ◌-◌, ◌==◌, ℤ, pos, negsuc, List, [], ◌∷◌, length, map, replicate, slice_get}
+use Rattle.std.specs.Prelude.{ℕ, suc, ◌-◌, ◌==◌, ℤ, pos, List, [], ◌∷◌, length, map, replicate, slice_get}
 use Rattle.std.specs.Prelude.{slice_set, nat_le}
 use Rattle.std.specs.Prelude.{slice_index_or, Option, Some, None, option_map, if◌then◌else◌}
 use Rattle.std.specs.Int.{w8, int_wrap}
+pub use Rattle.pcc_base.specs.Arithmetic.{element_at, with_element}
 use Rattle.pcc_base.specs.Outcome.{ArrayName, Null, Static, InFrame, Unknown, Value, Number, Array}
 pub use Rattle.pcc_base.specs.Objects.{Object}
 use Rattle.pcc_base.specs.declared.run.Width.{Width}
@@ -193,15 +194,6 @@ with_array (InFrame k depth) elements s =
           (slice_get s.waiting (waiting_place s depth)) s.waiting;
     }
 with_array Unknown elements s = s
-
--- the element at an index, where there is one
-abbrev pub element_at : List ℤ → ℤ → Option ℤ
-element_at elements (pos i) = slice_get elements i
-element_at elements (negsuc i) = None
-
-abbrev pub with_element : List ℤ → ℤ → ℤ → List ℤ
-with_element elements (pos i) value = slice_set elements i value
-with_element elements (negsuc i) value = elements
 
 -- ---- the first state
 

@@ -102,7 +102,7 @@ rises-none (suc n) zero i j a b l f g = absurd (cc)
 rises-none (suc n) (suc p) i j a b l f g = rises-none n p i j a b l f g
 
 -- of two numbers one is below the other, or it isn't
-split : (a b : ℕ) → (a < b) ⊎ (b ≤ a)
+pub split : (a b : ℕ) → (a < b) ⊎ (b ≤ a)
 split zero zero = inr (omega arith)
 split zero (suc b) = inl (omega arith)
 split (suc a) zero = inr (omega arith)

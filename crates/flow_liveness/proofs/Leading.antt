@@ -12,17 +12,19 @@ use Rattle.pcc_base.specs.declared.run.Trap.TheVariants.{Check, Divide}
 use Rattle.flow_graph.specs.declared.op.Bits.{Bits}
 use Rattle.flow_graph.specs.declared.op.Comparison.{Comparison}
 use Rattle.flow_graph.specs.declared.op.Comparison.TheVariants.{Eq}
+use Rattle.flow_graph.specs.declared.op.Order.{Order}
 use Rattle.flow_graph.specs.declared.op.Op.{Op}
 use Rattle.flow_graph.specs.declared.op.Op.TheVariants as op
 use Rattle.flow_graph.specs.Graphs.{Flow, IsIn, Stands, ends_block, following, is_end, points_of}
 use Rattle.flow_graph.specs.Liveness.{BeginsWith, IsBehind, IsDefinedAt, IsLiveAfter, IsLiveBefore, IsSuccessor}
 use Rattle.flow_graph.specs.Liveness.{GoesTo, LeadsTo, defined, uses}
 use Rattle.flow_graph.specs.Meaning.{Moved, Moves, Halts, Stuck, accessed, act, at_point, back_to, bytes_of, calls}
-use Rattle.flow_graph.specs.Meaning.{checked, clears, compared, comparison, divided, ends_program, enters, first_of}
-use Rattle.flow_graph.specs.Meaning.{arrays_compared, both, given, gets, into_block, loads, low_byte, most_active}
-use Rattle.flow_graph.specs.Meaning.{no_quotient, of_width, one_more, one_number, onward, puts, puts_scalar, result_to}
-use Rattle.flow_graph.specs.Meaning.{returns_to, sets, shift_count, shifted_right, step, stored, stores}
-use Rattle.flow_graph.specs.Meaning.{two_numbers, values_at}
+use Rattle.flow_graph.specs.Meaning.{checked, clears, compared, comparison, divided_unless, ends_program, enters}
+use Rattle.flow_graph.specs.Meaning.{arrays_compared, both, first_of, given, gets, into_block, loads, low_byte}
+use Rattle.flow_graph.specs.Meaning.{most_active, no_quotient, no_unsigned_quotient, of_width, one_more, one_number}
+use Rattle.flow_graph.specs.Meaning.{onward, ordered, ordering, puts, puts_scalar, result_to, returns_to, sets}
+use Rattle.flow_graph.specs.Meaning.{shift_count, shifted_right, shifted_unsigned, step, stored, stores, two_numbers}
+use Rattle.flow_graph.specs.Meaning.{unsigned_quotient, unsigned_remainder, values_at, zero_extended}
 use Rattle.flow_graph.specs.Shapes as shapes
 use Rattle.flow_graph.specs.Shapes.{shape}
 use Rattle.flow_graph.specs.States.{Activation, Elements, GraphProgram, State, Waiting, array_from, array_at, depth_of}
@@ -425,6 +427,17 @@ comparison-same how g vs vss a b x y =
     ap (λ (o : Option Value). compare how o (slice_get vs b)) x
     ∙ ap (compare how (slice_get g.current.variables a)) y
 
+order : Order → Option Value → Option Value → Option Bool
+order how x y = both (number_of x) (number_of y) (ordered how)
+
+ordering-same : (how : Order) (g : State) (vs : List Value) (vss : List (List Value)) (a b : ℕ)
+    → slice_get vs a ≡ slice_get g.current.variables a → slice_get vs b ≡ slice_get g.current.variables b
+    → ordering how (over g vs vss) a b ≡ ordering how g a b
+unfolding order
+ordering-same how g vs vss a b x y =
+    ap (λ (o : Option Value). order how o (slice_get vs b)) x
+    ∙ ap (order how (slice_get g.current.variables a)) y
+
 module _ (program : GraphProgram) (g : State) (vs : List Value) (vss : List (List Value)) where
   abbrev R : State → State → Type 0
   R = Stayed program g vss
@@ -459,13 +472,14 @@ module _ (program : GraphProgram) (g : State) (vs : List Value) (vss : List (Lis
       (λ m n. sets program g d (Number (f m n))) x y
       (λ m n. sets-leads program g vs vss o d (Number (f m n)) here plain some agree)
 
-  divided-leads : (o : Op) (d a b : ℕ) (f : ℤ → ℤ → ℤ) → Here program g o → is_end o ≡ false → defined o ≡ Some d
-      → Agrees → Same a → Same b → Leads R (divided program (over g vs vss) d a b f) (divided program g d a b f)
-  divided-leads o d a b f here plain some agree x y =
+  divided-leads : (traps : ℤ → ℤ → Bool) (o : Op) (d a b : ℕ) (f : ℤ → ℤ → ℤ) → Here program g o → is_end o ≡ false
+      → defined o ≡ Some d → Agrees → Same a → Same b
+      → Leads R (divided_unless traps program (over g vs vss) d a b f) (divided_unless traps program g d a b f)
+  divided-leads traps o d a b f here plain some agree x y =
       numbers-lead a b
-      (λ m n. if no_quotient m n then Halts (Trapped Divide) else sets program (over g vs vss) d (Number (f m n)))
-      (λ m n. if no_quotient m n then Halts (Trapped Divide) else sets program g d (Number (f m n))) x y
-      (λ m n. if-leads R (no_quotient m n) (Halts (Trapped Divide)) (Halts (Trapped Divide))
+      (λ m n. if traps m n then Halts (Trapped Divide) else sets program (over g vs vss) d (Number (f m n)))
+      (λ m n. if traps m n then Halts (Trapped Divide) else sets program g d (Number (f m n))) x y
+      (λ m n. if-leads R (traps m n) (Halts (Trapped Divide)) (Halts (Trapped Divide))
       (sets program (over g vs vss) d (Number (f m n))) (sets program g d (Number (f m n))) refl
       (sets-leads program g vs vss o d (Number (f m n)) here plain some agree))
 
@@ -475,6 +489,13 @@ module _ (program : GraphProgram) (g : State) (vs : List Value) (vss : List (Lis
   compared-lead how a b go' go x y h =
       given-leads R (comparison how (over g vs vss) a b) (comparison how g a b) go' go
       (comparison-same how g vs vss a b x y) (λ holds e. h holds)
+
+  ordered-lead : (how : Order) (a b : ℕ) (go' go : Bool → Moved) → Same a → Same b
+      → ((holds : Bool) → Leads R (go' holds) (go holds))
+      → Leads R (given (ordering how (over g vs vss) a b) go') (given (ordering how g a b) go)
+  ordered-lead how a b go' go x y h =
+      given-leads R (ordering how (over g vs vss) a b) (ordering how g a b) go' go
+      (ordering-same how g vs vss a b x y) (λ holds e. h holds)
 
   loads-leads : (o : Op) (bits : Bits) (d : ℕ) (array : ArrayName) (i : ℤ) → Here program g o → is_end o ≡ false
       → defined o ≡ Some d → Agrees
@@ -557,13 +578,16 @@ module _ (program : GraphProgram) (g : State) (vs : List Value) (vss : List (Lis
       (record { block = refl; point = refl; function = refl; waiting = like-same g.waiting })
       (after-set program g.current.function g.point o vs g.current.variables d value here.at some agree)
 
-  branch-leads : (how : Comparison) (a b x y : ℕ) (holds : Bool) → Here program g (op.Branch how a b x y) → Agrees
+  branch-leads : (o : Op) (x y : ℕ) (holds : Bool) → Here program g o → defined o ≡ None
+      → ((next : ℕ) → GoesTo (flow_at program g.current.function) g.point next (shapes.ToEither x y)
+      → LeadsTo (flow_at program g.current.function) g.point next o)
+      → Agrees
       → Leads R (into_block program (if holds then x else y) (over g vs vss))
       (into_block program (if holds then x else y) g)
-  branch-leads how a b x y true here agree =
-      into-leads program g vs vss (op.Branch how a b x y) x here refl (λ next h. inl h) agree
-  branch-leads how a b x y false here agree =
-      into-leads program g vs vss (op.Branch how a b x y) y here refl (λ next h. inr h) agree
+  branch-leads o x y true here none ways agree =
+      into-leads program g vs vss o x here none (λ next h. ways next (inl h)) agree
+  branch-leads o x y false here none ways agree =
+      into-leads program g vs vss o y here none (λ next h. ways next (inr h)) agree
 
 -- each op
 pub act-leads : (program : GraphProgram) (g : State) (vs : List Value) (vss : List (List Value)) (o : Op)
@@ -584,6 +608,8 @@ act-leads program g vs vss o here waits agree older = by o here (λ v used. read
         (sets program g d) (r a (inl refl))
         (λ value e. sets-leads program g vs vss (op.Copy d a) d value h refl refl kept)
     by (op.Wide d a) h r = one-leads program g vs vss (op.Wide d a) d a (λ n. n) h refl refl kept (r a (inl refl))
+    by (op.Zero d a) h r =
+        one-leads program g vs vss (op.Zero d a) d a zero_extended h refl refl kept (r a (inl refl))
     by (op.Low d a) h r =
         one-leads program g vs vss (op.Low d a) d a (int_wrap w8) h refl refl kept (r a (inl refl))
     by (op.Low16 d a) h r =
@@ -616,11 +642,20 @@ act-leads program g vs vss o here waits agree older = by o here (λ v used. read
     by (op.Sar d a c) h r =
         two-leads program g vs vss (op.Sar d a c) d a c (λ x y. shifted_right x (shift_count y)) h refl refl kept
         (r a (inl refl)) (r c (inr (inl refl)))
+    by (op.Shr d a c) h r =
+        two-leads program g vs vss (op.Shr d a c) d a c (λ x y. shifted_unsigned x (shift_count y)) h refl refl kept
+        (r a (inl refl)) (r c (inr (inl refl)))
     by (op.Div d a b) h r =
-        divided-leads program g vs vss (op.Div d a b) d a b int_div h refl refl kept
+        divided-leads program g vs vss no_quotient (op.Div d a b) d a b int_div h refl refl kept
         (r a (inl refl)) (r b (inr (inl refl)))
     by (op.Rem d a b) h r =
-        divided-leads program g vs vss (op.Rem d a b) d a b int_rem h refl refl kept
+        divided-leads program g vs vss no_quotient (op.Rem d a b) d a b int_rem h refl refl kept
+        (r a (inl refl)) (r b (inr (inl refl)))
+    by (op.Udiv d a b) h r =
+        divided-leads program g vs vss no_unsigned_quotient (op.Udiv d a b) d a b unsigned_quotient h refl refl kept
+        (r a (inl refl)) (r b (inr (inl refl)))
+    by (op.Urem d a b) h r =
+        divided-leads program g vs vss no_unsigned_quotient (op.Urem d a b) d a b unsigned_remainder h refl refl kept
         (r a (inl refl)) (r b (inr (inl refl)))
     by (op.Set how d a b) h r =
         compared-lead program g vs vss how a b
@@ -628,6 +663,13 @@ act-leads program g vs vss o here waits agree older = by o here (λ v used. read
         (λ holds. sets program g d (Number (if holds then pos 1 else pos 0)))
         (r a (inl refl)) (r b (inr (inl refl)))
         (λ holds. sets-leads program g vs vss (op.Set how d a b) d (Number (if holds then pos 1 else pos 0))
+        h refl refl kept)
+    by (op.Setu how d a b) h r =
+        ordered-lead program g vs vss how a b
+        (λ holds. sets program (over g vs vss) d (Number (if holds then pos 1 else pos 0)))
+        (λ holds. sets program g d (Number (if holds then pos 1 else pos 0)))
+        (r a (inl refl)) (r b (inr (inl refl)))
+        (λ holds. sets-leads program g vs vss (op.Setu how d a b) d (Number (if holds then pos 1 else pos 0))
         h refl refl kept)
     by (op.Frame d k) h r = frame-leads program g vs vss (op.Frame d k) d k h refl refl kept
     by (op.Static d k) h r =
@@ -692,7 +734,13 @@ act-leads program g vs vss o here waits agree older = by o here (λ v used. read
         (λ holds. into_block program (if holds then x else y) (over g vs vss))
         (λ holds. into_block program (if holds then x else y) g)
         (r a (inl refl)) (r b (inr (inl refl)))
-        (λ holds. branch-leads program g vs vss how a b x y holds h kept)
+        (λ holds. branch-leads program g vs vss (op.Branch how a b x y) x y holds h refl (λ next goes. goes) kept)
+    by (op.Branchu how a b x y) h r =
+        ordered-lead program g vs vss how a b
+        (λ holds. into_block program (if holds then x else y) (over g vs vss))
+        (λ holds. into_block program (if holds then x else y) g)
+        (r a (inl refl)) (r b (inr (inl refl)))
+        (λ holds. branch-leads program g vs vss (op.Branchu how a b x y) x y holds h refl (λ next goes. goes) kept)
     by (op.Return (Some a)) h r =
         given-leads (Ended_call program g vss) (number_of (slice_get vs a)) (number_at g a)
         (λ n. returns_to program (over g vs vss) (overlay vss g.waiting) (Some n))

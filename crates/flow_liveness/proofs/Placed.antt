@@ -12,6 +12,7 @@ use Rattle.flow_graph.specs.Liveness.{BeginsWith, IsBehind}
 use Rattle.flow_graph.proofs.Blocks.{one_block}
 use Rattle.flow_graph.proofs.Points.{every-in}
 use Rattle.flow_liveness.proofs.Adding.{has-in}
+pub use Rattle.flow_graph.proofs.Keeps.{has_block as block-within}
 
 -- a point of a block has an op, and it fits
 pub fitting : (flow : Flow) (homes : List ℕ) → IsFlow flow homes → (point block : ℕ) → Stands flow point block
@@ -31,12 +32,6 @@ pub placed-within : (flow : Flow) (homes : List ℕ) → IsFlow flow homes → (
     → point < length flow.ops
 placed-within flow homes is point (block, stands) =
     let (op, has, fits) = fitting flow homes is point block stands in slice_get_within flow.ops point op has
-
--- a block that has a point is there
-pub block-within : (blocks : List (List ℕ)) (b p : ℕ) → IsIn p (get_or blocks b []) → b < length blocks
-block-within [] b p h = absurd h
-block-within (x ∷ xs) zero p h = omega arith
-block-within (x ∷ xs) (suc b) p h = omega (arith, block-within xs b p h)
 
 -- the first point of a block is in it
 pub first-placed : (flow : Flow) (block point : ℕ) → BeginsWith flow block point → IsPlaced flow point

@@ -4,7 +4,7 @@ use Rattle.std.proofs.Common.{◌∙◌}
 use Rattle.std.specs.List.{slice_get}
 use Rattle.std.proofs.lemmas.Option.{same_Some}
 use Rattle.flow_graph.specs.declared.op.Op.{Op}
-use Rattle.flow_graph.specs.declared.op.Op.TheVariants.{Branch, Jump}
+use Rattle.flow_graph.specs.declared.op.Op.TheVariants.{Branch, Branchu, Jump}
 use Rattle.flow_graph.specs.Graphs.{Flow, FitsOp, IsFlow, IsPlaced}
 use Rattle.flow_graph.specs.Liveness.{GoesTo, IsSuccessor, LeadsTo}
 use Rattle.flow_graph.specs.Shapes as shapes
@@ -38,6 +38,7 @@ WayFits flow Nowhere = Unit {0}
 pub way-fits : (flow : Flow) (op : Op) → FitsOp flow op → WayFits flow (way_of op)
 way-fits flow (Jump x) fits = fits.0
 way-fits flow (Branch how a b x y) fits = (fits.1.1.0, fits.1.1.1.0)
+way-fits flow (Branchu how a b x y) fits = (fits.1.1.0, fits.1.1.1.0)
 way-fits flow _ fits = tt
 
 -- where a point leads, by its way

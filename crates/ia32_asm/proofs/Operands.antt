@@ -20,6 +20,9 @@ use Rattle.ia32_insn.specs.Spelling.{high_field, middle_field, low_field, base_n
 use Rattle.ia32_insn.specs.Preferred.{byte_bytes, word_bytes, fits_byte, fields_byte, base_number, mod_for}
 use Rattle.ia32_insn.specs.Preferred.{displacement_for, scale_bits, sib_for, needs_sib, fields_for}
 use Rattle.ia32_asm.specs.Parts.{IsOperand, IsIndex}
+pub use Rattle.ia32_insn.proofs.Registers.{number32_below as number32-lt}
+pub use Rattle.ia32_insn.proofs.Rows.{number8_below as number8-lt}
+pub use Rattle.ia32_asm.proofs.Words.{reads_signed as reads-word}
 
 -- ---- what is pushed
 
@@ -57,26 +60,6 @@ fields-lt h m l o p q = omega arith
 
 -- ---- numbers
 
-pub number32-lt : (r : Reg32) → number32 r < 8
-number32-lt Eax = lit< tt
-number32-lt Ecx = lit< tt
-number32-lt Edx = lit< tt
-number32-lt Ebx = lit< tt
-number32-lt Esp = lit< tt
-number32-lt Ebp = lit< tt
-number32-lt Esi = lit< tt
-number32-lt Edi = lit< tt
-
-pub number8-lt : (r : Reg8) → number8 r < 8
-number8-lt Al = lit< tt
-number8-lt Cl = lit< tt
-number8-lt Dl = lit< tt
-number8-lt Bl = lit< tt
-number8-lt Ah = lit< tt
-number8-lt Ch = lit< tt
-number8-lt Dh = lit< tt
-number8-lt Bh = lit< tt
-
 base_number-lt : (base : Option Reg32) → base_number base < 8
 base_number-lt None = lit< tt
 base_number-lt (Some r) = number32-lt r
@@ -88,13 +71,6 @@ word-bits (negsuc n) fits = omega arith
 
 word-signed : (z : ℤ) → FitsSigned w32 z → twos_complement 4 (cast_unsigned w32 z) ≡ z
 word-signed z fits = grind (arith, ints, nat_tests)
-
-pub reads-word : (z : ℤ) → FitsSigned w32 z → ReadsSigned 4 (word_bytes z) z
-reads-word z fits =
-    let back : little_number 4 (word_bytes z) ≡ cast_unsigned w32 z =
-    ap (λ (l : List ℕ). little_number 4 l) (sym (append-nil (word_bytes z))) ∙ little_number-reads_back 4
-    (cast_unsigned w32 z) [] (word-bits z fits) in
-    record { count = length-bytes_low_first 0 4 (cast_unsigned w32 z); reads = rw back (word-signed z fits) }
 
 -- so does a byte
 byte-signed : (z : ℤ) → fits_byte z ≡ true → twos_complement 1 (cast_unsigned w8 z) ≡ z

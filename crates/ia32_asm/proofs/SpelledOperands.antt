@@ -23,6 +23,7 @@ use Rattle.ia32_insn.specs.Preferred.{preferred, fields_for, fits_byte, word_byt
 use Rattle.ia32_asm.specs.Parts.{IsOperand, IsInRange, HasIndex, IsIndexed}
 use Rattle.ia32_asm.proofs.Operands.{IsSpelled, number32-lt, number8-lt, fields-spelled, fields-preferred}
 use Rattle.ia32_asm.proofs.Operands.{reads-word, reads-byte}
+use Rattle.ia32_insn.proofs.Rows.{alu_below as alu_number-lt}
 
 -- ---- operands
 
@@ -38,14 +39,6 @@ spelled32 (rm.Mem m) h = h
 spelled8 : (operand : Rm8) → HasIndex (operand8 operand) → IsSpelled (operand8 operand)
 spelled8 (rm8.Reg r) h = number8-lt r
 spelled8 (rm8.Mem m) h = h
-
-alu_number-lt : (op : AluOp) → alu_number op < 8
-alu_number-lt alu.Add = lit< tt
-alu_number-lt alu.Or = lit< tt
-alu_number-lt alu.And = lit< tt
-alu_number-lt alu.Sub = lit< tt
-alu_number-lt alu.Xor = lit< tt
-alu_number-lt alu.Cmp = lit< tt
 
 shift_number-lt : (op : ShiftOp) → shift_number op < 8
 shift_number-lt shift.Shl = lit< tt

@@ -52,7 +52,7 @@ fn base_number(base: Option<Reg32>) -> u8
 }
 
 /// Which mod goes with a base and a displacement.
-fn mod_for(base: Option<Reg32>, disp: i32) -> u8
+pub(crate) fn mod_for(base: Option<Reg32>, disp: i32) -> u8
     ensures mode { result ≡ preferred.mod_for base disp }
     ensures below { result < 3 }
 {
@@ -94,7 +94,7 @@ fn sib_for(index: Option<(Reg32, u8)>, base: Option<Reg32>) -> u8
 }
 
 /// A SIB byte is needed for an index, and where the base is ESP.
-fn needs_sib(index: Option<(Reg32, u8)>, base: Option<Reg32>) -> bool
+pub(crate) fn needs_sib(index: Option<(Reg32, u8)>, base: Option<Reg32>) -> bool
     ensures { result ≡ preferred.needs_sib index base }
 {
     match index {

@@ -6,10 +6,13 @@
 //!
 //! `encode` is the encoder. In goes an instruction that has a spelling, out come its bytes: those of the preferred
 //! spelling of `specs/Preferred.antt` of `ia32_insn`, which is a spelling by `specs/Spelling.antt`. No memory is taken.
+//! How many they are is known without them (`lengths`), so that labels get their offsets before anything is spelled, and
+//! each instruction is spelled once.
 #![tactic(auto)]
 
 mod assembly;
 mod fields;
+mod lengths;
 mod numbers;
 mod offsets;
 mod opcode_bytes;

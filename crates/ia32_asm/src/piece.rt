@@ -2,6 +2,7 @@ ghost use Rattle.std.specs.Prelude.{◌≡◌, ◌<◌, ◌≤◌, ◌+◌, ◌^
 ghost use Rattle.ia32_asm.specs.Sections.{IsSpelled, is_relative, item_size, target_of};
 ghost use Rattle.ia32_asm.specs.Pieces.{HasEntry, IsPreferred, distance_in, instruction_in, piece, relocations_in};
 
+use crate::lengths::length_of;
 use crate::section::{Relocation, Target};
 use crate::spelling::encode;
 use ia32_insn::{Insn, Item, Rm32};
@@ -30,15 +31,19 @@ pub(crate) fn instruction_in(item: &Item, distance: i32) -> Option<Insn>
     }
 }
 
-/// How many bytes an item has.
+/// How many bytes an item has, without spelling it: a jump or call has a word behind an opcode of one byte, or of two
+/// where it has a condition (Intel manual, volume 2: JMP, CALL, Jcc), and so has a MOV to a register behind one byte.
 pub(crate) fn size_of(item: &Item) -> u32
     requires { IsSpelled item.now }
     ensures value { result ≡ item_size item.now }
     ensures short { result ≤ 15 }
 {
-    match instruction_in(item, 0) {
-        Some(insn) => encode(&insn).len() as u32,
-        None => 0,
+    match item {
+        Item::Plain(insn) => length_of(insn),
+        Item::Label(_) | Item::Point(_) => 0,
+        Item::JumpTo(_) | Item::CallFunction(_) | Item::CallStub(_) | Item::JumpTrap(None) => 5,
+        Item::JumpIf(_, _) | Item::JumpTrap(Some(_)) => 6,
+        Item::AddressOf(_, _) => 5,
     }
 }
 

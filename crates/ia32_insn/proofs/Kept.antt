@@ -210,7 +210,7 @@ effect-kept P insn.Nop after s k h = h
 -- ---- what follows for the kinds of change
 
 -- what holds of each value that is given
-if-ok : {X : Type 0} (a : Result X End) (P : X → Type 0) → ((x : X) → a ≡ Ok x → P x) → IfOk a P
+pub if-ok : {X : Type 0} (a : Result X End) (P : X → Type 0) → ((x : X) → a ≡ Ok x → P x) → IfOk a P
 if-ok (Ok x) P h = h x refl
 if-ok (Err end) P h = tt
 

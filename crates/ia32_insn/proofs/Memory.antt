@@ -43,7 +43,7 @@ has-with_bytes address b n bytes area h =
     ap (λ (k : ℕ). nat_le area.address b && nat_le (b + n) (area.address + k)) (length-with_bytes address bytes area h)
 
 -- what a mapped option came from
-mapped : {X Y : Type 0} (f : X → Y) (o : Option X) (y : Y) → option_map f o ≡ Some y → (x : X) × (o ≡ Some x)
+pub mapped : {X Y : Type 0} (f : X → Y) (o : Option X) (y : Y) → option_map f o ≡ Some y → (x : X) × (o ≡ Some x)
     × (f x ≡ y)
 mapped f None y e = absurd (none-some y e)
 mapped f (Some x) y e = (x, refl, same_Some (f x) y e)

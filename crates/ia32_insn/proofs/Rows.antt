@@ -38,7 +38,7 @@ use Rattle.ia32_insn.proofs.Opcodes.{alu_made}
 
 -- ---- numbers are below their limits
 
-number8_below : (r : Reg8) → number8 r < 8
+pub number8_below : (r : Reg8) → number8 r < 8
 number8_below Al = omega arith
 number8_below Cl = omega arith
 number8_below Dl = omega arith
@@ -48,7 +48,7 @@ number8_below Ch = omega arith
 number8_below Dh = omega arith
 number8_below Bh = omega arith
 
-alu_below : (op : AluOp) → alu_number op < 8
+pub alu_below : (op : AluOp) → alu_number op < 8
 alu_below alu.Add = omega arith
 alu_below alu.Or = omega arith
 alu_below alu.And = omega arith

@@ -47,6 +47,7 @@ use Rattle.ia32_laws.proofs.Elsewhere.{at-own-address, following-in, keeps-at, s
 use Rattle.ia32_laws.proofs.Beside.{cells-apart, memory-apart, same-from, stack-untouched, stands-low}
 use Rattle.ia32_laws.proofs.Goes.{low-byte-is}
 use Rattle.ia32_laws.proofs.Onward.{IsNext}
+use Rattle.ia32_laws.proofs.Spared.{spared-kept, outside, second-byte, high-byte-is}
 
 -- The machine has come back from a routine: the items are ready, EAX has this word, EBX, ESP and EBP are as before, and
 -- so is all of memory but the twelve bytes below ESP. The input and the output are these.
@@ -66,58 +67,8 @@ pub record CameBack (site : Site) (frame : ℕ) (items : List Item) (y : ℕ) (l
 
 -- ---- the bytes of EBX
 
--- the second byte of a word in cells
-second-byte : (p : ℕ) (bs : List ℕ) → get_or bs p 0 < 256 → get_or bs (p + 1) 0 < 256
-    → get_or bs (p + 1) 0 ≡ little_from 0 4 (drop p bs) / 256 % 256
-second-byte p bs small also =
-    counted (get_or (drop p bs) 0 0) (get_or (drop p bs) 1 0) (little_from 2 2 (drop p bs)) (get_or bs p 0)
-    (get_or bs (p + 1) 0)
-    (get_or-drop p bs 0 0 ∙ ap (λ (m : ℕ). get_or bs m 0) (let e : p + 0 ≡ p = omega arith in e))
-    (get_or-drop p bs 1 0) small also
-  where
-    counted : (x y k w v : ℕ) → x ≡ w → y ≡ v → w < 256 → v < 256 → v ≡ (x + 256 * (y + 256 * k)) / 256 % 256
-    counted x y k w v e f small also = omega arith
-
-high-byte-is : (s : machine.State) → AreRegisters s.registers → byte_of Bh s ≡ word_of Ebx s / 256 % 256
-high-byte-is s h = second-byte 12 s.registers (h.below 12) (h.below 13)
-
--- cells of a register are not outside it
-outside : (low k : ℕ) → (k < low) ⊎ (low + 4 ≤ k) → low ≤ k → k < low + 4 → ⊥
-outside low k (inl h) a b = omega arith
-outside low k (inr h) a b = omega arith
-
--- a place that calls spare is in EBX or a slot, and contains what it did
-spared-kept : (base frame : ℕ) (place : Place) (s m : machine.State) → AreRegisters s.registers
-    → AreRegisters m.registers → IsPlaceIn frame place → IsSparedByCall place → word_of Ebx m ≡ word_of Ebx s
-    → ((slot : ℕ) → place ≡ InSlot slot → IsSame base (InSlot slot) s m) → IsSame base place s m
-spared-kept base frame (InWord Eax) s m old new inside spared same slots = absurd (spared.0 refl)
-spared-kept base frame (InWord Ecx) s m old new inside spared same slots = absurd (spared.1 refl)
-spared-kept base frame (InWord Edx) s m old new inside spared same slots = absurd (spared.2 refl)
-spared-kept base frame (InWord Ebx) s m old new inside spared same slots = same
-spared-kept base frame (InWord Esp) s m old new inside spared same slots = absurd inside
-spared-kept base frame (InWord Ebp) s m old new inside spared same slots = absurd inside
-spared-kept base frame (InWord Esi) s m old new inside spared same slots = absurd inside
-spared-kept base frame (InWord Edi) s m old new inside spared same slots = absurd inside
-spared-kept base frame (InByte Bl) s m old new inside spared same slots =
-    low-byte-is Ebx m new tt ∙ ap (λ (w : ℕ). w % 256) same ∙ sym (low-byte-is Ebx s old tt)
-spared-kept base frame (InByte Bh) s m old new inside spared same slots =
-    high-byte-is m new ∙ ap (λ (w : ℕ). w / 256 % 256) same ∙ sym (high-byte-is s old)
-spared-kept base frame (InByte Al) s m old new inside spared same slots = absurd (outside 0 0 spared.0 (omega arith)
-    (omega arith))
-spared-kept base frame (InByte Ah) s m old new inside spared same slots = absurd (outside 0 1 spared.0 (omega arith)
-    (omega arith))
-spared-kept base frame (InByte Cl) s m old new inside spared same slots = absurd (outside 4 4 spared.1 (omega arith)
-    (omega arith))
-spared-kept base frame (InByte Ch) s m old new inside spared same slots = absurd (outside 4 5 spared.1 (omega arith)
-    (omega arith))
-spared-kept base frame (InByte Dl) s m old new inside spared same slots = absurd (outside 8 8 spared.2 (omega arith)
-    (omega arith))
-spared-kept base frame (InByte Dh) s m old new inside spared same slots = absurd (outside 8 9 spared.2 (omega arith)
-    (omega arith))
-spared-kept base frame (InSlot slot) s m old new inside spared same slots = slots slot refl
-
 -- one change after another
-same-then : (base : ℕ) (place : Place) (s m u : machine.State) → IsSame base place s m → IsSame base place m u
+pub same-then : (base : ℕ) (place : Place) (s m u : machine.State) → IsSame base place s m → IsSame base place m u
     → IsSame base place s u
 same-then base (InWord r) s m u a b = b ∙ a
 same-then base (InByte r) s m u a b = b ∙ a

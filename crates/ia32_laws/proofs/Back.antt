@@ -22,7 +22,7 @@ use Rattle.ia32_laws.specs.KeepsLaws.{data_end}
 use Rattle.ia32_laws.specs.Supports.{IsArrayIn, IsSupported, site_of, size_of}
 use Rattle.ia32_laws.proofs.KeepsApart.{IsSomewhere, element-ends, frame-array, frame-room, object-read}
 use Rattle.ia32_laws.proofs.Chain.{AreAlike, chain-kept, remade, word-alike}
-use Rattle.ia32_laws.proofs.Memory.{shapes-are, text-is}
+use Rattle.ia32_laws.proofs.Memory.{shapes-are, small-is, text-is}
 use Rattle.ia32_laws.proofs.Shown.{alike-waits, elements-kept, same-waits, waits-supported}
 use Rattle.ia32_laws.proofs.Zones.{frame_size}
 use Rattle.ia32_laws.proofs.Chains.{Carried, chain-above, chain-carried, frames-above}
@@ -196,6 +196,7 @@ module _ (code : Code) (input : List ℕ) (g : graph.State) (s t : machine.State
         placed = placed;
         shapes = shapes-are code.text (objects_of code.program) t.memory sound.bytes sound.memory sound.size;
         text = text-is code.text t.memory (data_start code.text) sound.bytes sound.memory;
+        small = small-is code.text (data_start code.text) sound.bytes t.memory sound.memory sound.small;
         eip = refl;
         esp = b.esp ∙ sym b.ebp;
         room = stacked (stack_end code.text (objects_of code.program)) (word_of Esp s) (word_of Ebp s)

@@ -27,7 +27,7 @@ use Rattle.ia32_rows.specs.CallsLaws.{Entered}
 use Rattle.ia32_rows.proofs.Prologue.{prologue-goes}
 use Rattle.ia32_laws.specs.KeepsLaws.{data_end}
 use Rattle.ia32_laws.specs.Supports.{AreArraysIn, IsSupported, Supports, site_of, size_of}
-use Rattle.ia32_laws.proofs.Memory.{areas-are, text-above}
+use Rattle.ia32_laws.proofs.Memory.{areas-are, data-small, text-above}
 use Rattle.ia32_laws.proofs.Zones.{frame_size}
 use Rattle.ia32_laws.specs.Called.{Called, WaitAtEbp}
 use Rattle.ia32_laws.specs.EntriesLaws.{EntryAt}
@@ -157,6 +157,7 @@ called-sound code input g s h c =
       size = areas.2;
       above = text-above code.text;
       below = h.fits;
+      small = data-small code.text (data_start code.text) areas.0 s.memory areas.1 c.small;
       registers = c.registers;
     }
 

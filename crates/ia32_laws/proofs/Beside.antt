@@ -41,50 +41,11 @@ use Rattle.ia32_laws.proofs.KeepsApart.{protected-is-apart}
 use Rattle.ia32_laws.proofs.Puts.{IsLow}
 use Rattle.ia32_laws.proofs.Elsewhere.{at-own-address, following-in, keeps-at, stands-at}
 use Rattle.ia32_laws.specs.CoresLaws.{PutsBeside}
+pub use Rattle.ia32_laws.proofs.Puts.{stands-low}
+pub use Rattle.ia32_rows.proofs.Sums.{cells-apart, memory-apart}
+pub use Rattle.ia32_laws.proofs.Elsewhere.{stack-untouched}
 
 -- ---- cells
-
--- ESP and EBP are in no place
-pub stack-untouched : (frame k : ℕ) (p : Place) → IsPlaceIn frame p → 16 ≤ k → k < 24 → Untouched p k
-stack-untouched frame k (InWord r) placed low high =
-    let b = general-below r placed in (inr (omega arith), inl (omega arith), inl (omega arith))
-stack-untouched frame k (InByte r) placed low high =
-    let b = byte-below r in ((λ e. omega (arith, e)), inl (omega arith), inl (omega arith))
-stack-untouched frame k (InSlot slot) placed low high = (tt, inl (omega arith), inl (omega arith))
-
--- places apart have cells apart
-pub cells-apart : (frame : ℕ) (p q : Place) → IsPlaceIn frame q → ArePlacesApart p q → PlaceHasCells (Untouched p) q
-cells-apart frame (InWord r) (InWord t) placed apart =
-    let b = general-below t placed in
-    λ m below. (other-cells t r (λ e. apart (sym e)) m below, inl (omega arith), inl (omega arith))
-cells-apart frame (InWord r) (InByte t) placed apart =
-    let b = byte-below t in (apart, inl (omega arith), inl (omega arith))
-cells-apart frame (InWord r) (InSlot k) placed apart = tt
-cells-apart frame (InByte r) (InWord t) placed (inl apart) =
-    let b = general-below t placed in λ m below. ((λ e. omega (arith, e)), inl (omega arith), inl (omega arith))
-cells-apart frame (InByte r) (InWord t) placed (inr apart) =
-    let b = general-below t placed in λ m below. ((λ e. omega (arith, e)), inl (omega arith), inl (omega arith))
-cells-apart frame (InByte r) (InByte t) placed apart =
-    let b = byte-below t in ((λ e. apart (sym e)), inl (omega arith), inl (omega arith))
-cells-apart frame (InByte r) (InSlot k) placed apart = tt
-cells-apart frame (InSlot k) (InWord t) placed apart =
-    let b = general-below t placed in λ m below. (tt, inl (omega arith), inl (omega arith))
-cells-apart frame (InSlot k) (InByte t) placed apart =
-    let b = byte-below t in (tt, inl (omega arith), inl (omega arith))
-cells-apart frame (InSlot k) (InSlot b) placed apart = tt
-
--- and memory apart
-pub memory-apart : (frame base : ℕ) (p q : Place) → frame ≤ base → IsPlaceIn frame p → IsPlaceIn frame q
-    → ArePlacesApart p q → PlaceHasMemory (ApartFromPlace base p) base q
-memory-apart frame base p (InWord t) h one two apart = tt
-memory-apart frame base p (InByte t) h one two apart = tt
-memory-apart frame base (InWord r) (InSlot k) h one two apart = (tt, tt)
-memory-apart frame base (InByte r) (InSlot k) h one two apart =
-    let low = two.low in let high = two.high in (inr (omega arith), inr (omega arith))
-memory-apart frame base (InSlot k) (InSlot b) h one two (inl first) =
-    let high = two.high in let low = one.low in (inr (omega arith), inr (omega arith))
-memory-apart frame base (InSlot k) (InSlot b) h one two (inr second) =
-    let high = one.high in let low = two.low in (inl (omega arith), inl (omega arith))
 
 -- cells that pass both tests
 both-cells : (R Q : ℕ → Type 0) (p : Place) → PlaceHasCells R p → PlaceHasCells Q p → PlaceHasCells (λ k. R k × Q k) p
@@ -154,18 +115,6 @@ beside-keeps R code input g s u o d w place items supported state shown has defi
     }
 
 -- ---- where it leads
-
-pub stands-low : (code : Code) (active : List Activation) (frames : List ℕ) (u : machine.State) (width : Option Width)
-    (value : Value) (place : Place) (w : ℕ) → HoldsWidth width place → IsLow code active frames width value w
-    → HoldsLow u place w → StandsIn code active frames u (word_of Ebp u) width value place
-stands-low code active frames u (Some Two) value (InWord r) w for low holds =
-    subst (IsWord code active frames value) (sym holds) low
-stands-low code active frames u (Some Two) value (InByte r) w for low holds = absurd for
-stands-low code active frames u (Some Two) value (InSlot slot) w for low holds = (w, holds.0, low)
-stands-low code active frames u (Some One) value (InWord r) w for low holds = absurd for
-stands-low code active frames u (Some One) value (InByte r) w for low holds = subst (IsByte value) (sym holds) low
-stands-low code active frames u (Some One) value (InSlot slot) w for low holds = (w % 256, holds.1, low)
-stands-low code active frames u None value place w for low holds = absurd for
 
 pub beside-follows : (R : ℕ → Type 0) (code : Code) (input : List ℕ) (g : graph.State) (s : machine.State) (o : Op)
     (d w : ℕ) (value : Value) (place : Place) (items : List Item) → IsSupported code → IsState code.program g

@@ -6,18 +6,16 @@ use Rattle.ia32_insn.specs.declared.insn.Cond.{Cond}
 use Rattle.ia32_insn.specs.declared.item.Item.{Item}
 use Rattle.ia32_insn.specs.declared.item.Item.TheVariants as item
 use Rattle.ia32_insn.specs.State.{State, at_address}
-use Rattle.ia32_insn.specs.Arithmetic.{holds, signed}
-use Rattle.flow_graph.specs.Meaning.{compared}
+use Rattle.ia32_insn.specs.Arithmetic.{holds}
 use Rattle.ia32_rows.specs.Paths.{Comes}
 use Rattle.ia32_rows.specs.Sites.{ReadyAt, Site, SoundAt, StandsFrom}
 use Rattle.ia32_rows.proofs.Jumps.{branch-leads, branch-passes}
 use Rattle.ia32_rows.proofs.Sound.{sound-at}
 use Rattle.ia32_rows.proofs.Steps.{comes-then}
 use Rattle.ia32_rows.proofs.Straight.{straight-goes}
-use Rattle.ia32_rows.specs.Rows.{choosing, comparing, cond_of, jumping}
+use Rattle.ia32_rows.specs.Rows.{choosing, comparing, jumping}
 use Rattle.ia32_laws.specs.CoresLaws.{BranchGoes, IsOnTheWay}
 use Rattle.ia32_laws.proofs.Flags.{places-compare}
-use Rattle.ia32_laws.proofs.Numbers.{comparison-decides}
 
 -- items that are ready stand there
 ready-stands : (site : Site) (items : List Item) (s : State) → ReadyAt site items s → StandsFrom site items s.eip
@@ -65,18 +63,17 @@ ways-lead site c false detour (move ∷ moves) to_other taken other u address fr
     )
 
 pub branch-goes : BranchGoes
-branch-goes site frame how detour q r to_taken to_other taken other x y s address front back rest start framed a
-    a_placed b b_placed one two fits also ready stands =
-    let ends : List Item = choosing (cond_of how) detour to_taken to_other taken other in
+branch-goes site frame c t detour q r to_taken to_other taken other x y s address front back rest start framed a
+    a_placed b b_placed one two fits decided ready stands =
+    let ends : List Item = choosing c detour to_taken to_other taken other in
     let known = places-compare site frame q r x y s framed a a_placed b b_placed one two fits in
     let u : State = known.0 in
-    let decided = ap (holds (cond_of how)) known.1.flags ∙ comparison-decides how x y fits also in
     let here : ReadyAt site (comparing q r ++ (ends ++ rest)) (at_address address s) =
     subst (λ (items : List Item). ReadyAt site items (at_address address s))
     (append_assoc (comparing q r) ends rest) ready in
     let went = straight-goes site (comparing q r) (ends ++ rest) s u address framed.sound here known.1.leads in
-    let last = ways-lead site (cond_of how) (compared how (signed x) (signed y)) detour to_taken to_other taken other u
-    went.0 front back rest start known.1.framed.sound decided went.2 stands in (
+    let last = ways-lead site c t detour to_taken to_other taken other u went.0 front back rest start
+    known.1.framed.sound (ap (holds c) known.1.flags ∙ decided) went.2 stands in (
       u,
       known.1.framed,
       known.1.keeps,

@@ -14,6 +14,7 @@ use Rattle.ia32_insn.specs.Items.{text_area}
 use Rattle.ia32_insn.proofs.Access.{load-elsewhere, load-stored, ok-once, store-keeps_rest}
 use Rattle.ia32_insn.proofs.Splices.{length-replaced}
 use Rattle.ia32_rows.specs.Sites.{Site, SoundAt, data_from}
+use Rattle.ia32_rows.proofs.Small.{with-small}
 use Rattle.ia32_rows.proofs.Sets.{disjoint-part}
 use Rattle.ia32_rows.proofs.Sound.{areas-apart, bytes-in, load-in}
 
@@ -102,6 +103,7 @@ byte-stores site a y s h from to zero small =
       size = ap (λ (k : ℕ). site.low + k) long ∙ size;
       above = h.above;
       below = h.below;
+      small = with-small (a - site.low) (a - site.low + 1) y h.bytes small h.small;
       registers = h.registers;
     } in
     let as_store : store 1 a y s ≡ Ok t = ap (λ (bs : List ℕ). store_bytes a bs s) (one-little y small) ∙ is in

@@ -22,7 +22,7 @@ use Rattle.ia32_rows.specs.Placements.{Code, objects_of}
 use Rattle.ia32_rows.proofs.Steps.{comes-then}
 use Rattle.ia32_rows.specs.Shows.{ArgumentsStand, ElementsStand, HoldsOldArrays, IsOldArray, ObjectsStand}
 use Rattle.ia32_laws.specs.Supports.{IsSupported}
-use Rattle.ia32_laws.proofs.Memory.{shapes-are, text-is}
+use Rattle.ia32_laws.proofs.Memory.{shapes-are, small-is, text-is}
 use Rattle.ia32_laws.proofs.Objects.{object-in}
 use Rattle.ia32_laws.proofs.Functions.{function-stands}
 use Rattle.ia32_laws.specs.Called.{Called}
@@ -30,12 +30,7 @@ use Rattle.ia32_laws.proofs.Entry.{entry-comes}
 use Rattle.ia32_laws.specs.StartsLaws.{MainIsCalled, MainIsShown, StartedOver, image_state}
 use Rattle.ia32_laws.proofs.Data.{copied, objects-begin}
 use Rattle.ia32_laws.proofs.Start.{enough, start-goes-over}
-
--- an element of a list of one value is that
-mapped : {X Y : Type 0} → (xs : List X) (y z : Y) (v : ℕ) → slice_get (map (λ x. y) xs) v ≡ Some z → y ≡ z
-mapped [] y z v e = absurd (none-some z e)
-mapped (x ∷ xs) y z zero e = same_Some y z e
-mapped (x ∷ xs) y z (suc v) e = mapped xs y z v e
+use Rattle.ia32_laws.proofs.Fresh.{mapped}
 
 -- ---- the static objects
 
@@ -147,6 +142,7 @@ called code input point address t supported first named h =
       placed = first-in point (points_of (flow_at code.program code.program.main) 0) first;
       shapes = shapes-are code.text (objects_of code.program) t.memory sound.bytes sound.memory sound.size;
       text = text-is code.text t.memory (data_start code.text) sound.bytes sound.memory;
+      small = small-is code.text (data_start code.text) sound.bytes t.memory sound.memory sound.small;
       room = roomy (stack_end code.text (objects_of code.program)) (word_of Esp t - 4) (word_of Esp t) above h.esp;
       few = omega arith;
       depth = h.depth;

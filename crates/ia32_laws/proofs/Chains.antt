@@ -23,6 +23,7 @@ use Rattle.ia32_laws.specs.Supports.{IsSupported, Supports}
 use Rattle.ia32_laws.specs.Protected.{ChainReads, IsSame}
 use Rattle.ia32_laws.proofs.Chain.{Loads, WaitsSupported, spared-same}
 use Rattle.ia32_laws.proofs.Zones.{frame_size, words-most}
+pub use Rattle.ia32_laws.proofs.Zones.{stack-small}
 
 -- ---- values
 
@@ -175,32 +176,3 @@ frames-above code active frames s younger frame (w ∷ waiting) (o ∷ older) (s
     counted e n m p o f h s = omega arith
 
 -- ---- the bytes of the stack
-
--- each call takes at most 0x4000 bytes, where its argument words count for the call that passes them
-pub stack-small : (code : Code) (a : Activation) (waiting : List Waiting) → IsSupported code
-    → AreActivations code.program (a ∷ map (λ w. w.activation) waiting) → AreWaiting code.program a waiting
-    → stack_bytes code (a ∷ map (λ w. w.activation) waiting) + 4 * most_words (flow_at code.program a.function).ops
-    ≤ 0x4000 * suc (length waiting)
-stack-small code a [] h active waits =
-    let none : length a.arguments ≡ 0 = ap length waits.1 in
-    let bytes = h.bytes a.function active.0.function in
-    counted (frame_size code a) (length a.arguments) (most_words (flow_at code.program a.function).ops) none bytes
-  where
-    counted : (f n m : ℕ) → n ≡ 0 → 8 + f + 4 * m ≤ 0x4000 → 8 + f + 4 * n + 0 + 4 * m ≤ 0x4000 * 1
-    counted f n m e b = omega arith
-stack-small code a (w ∷ waiting) h active waits =
-    let bytes = h.bytes a.function active.0.function in
-    let one = waits.0 in
-    let many : length one.words ≡ length a.arguments =
-    sym (length-map one.words (slice_get w.activation.variables)) ∙ ap length one.passes
-    ∙ length-map a.arguments Some in
-    let most = words-most (flow_at code.program w.activation.function).ops w.point
-    (op.Call one.result a.function one.words) one.calls in
-    let rest = stack-small code w.activation waiting h active.1 waits.1 in
-    counted (frame_size code a) (length a.arguments) (most_words (flow_at code.program a.function).ops)
-    (length one.words) (most_words (flow_at code.program w.activation.function).ops)
-    (stack_bytes code (w.activation ∷ map (λ v. v.activation) waiting)) (length waiting) many most bytes rest
-  where
-    counted : (f n m k l r c : ℕ) → k ≡ n → k ≤ l → 8 + f + 4 * m ≤ 0x4000 → r + 4 * l ≤ 0x4000 * suc c
-        → 8 + f + 4 * n + r + 4 * m ≤ 0x4000 * suc (suc c)
-    counted f n m k l r c e h b s = omega arith

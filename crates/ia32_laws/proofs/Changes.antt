@@ -17,11 +17,11 @@ use Rattle.flow_graph.specs.declared.op.Op.{Op}
 use Rattle.flow_graph.specs.declared.op.Op.TheVariants as op
 use Rattle.flow_graph.specs.Graphs.{HasWidth, IsIn}
 use Rattle.flow_graph.specs.Liveness.{IsBehind, LeadsTo, defined, uses}
-use Rattle.flow_graph.specs.Meaning.{given, sets}
+use Rattle.flow_graph.specs.Meaning.{given, sets, zero_extended}
 use Rattle.flow_graph.specs.States as graph
 use Rattle.flow_graph.specs.States.{active_of, flow_at, number_of, op_at, value_at}
 use Rattle.flow_graph.specs.WellFormed.{IsState}
-use Rattle.flow_graph.proofs.Numbers.{byte-word, not-fits}
+use Rattle.flow_graph.proofs.Numbers.{byte-word, extended-fits, not-fits}
 use Rattle.ia32_laws.proofs.Landing.{FollowsKept, followed}
 use Rattle.ia32_rows.specs.Placements.{Code, placement_of}
 use Rattle.ia32_rows.specs.Shows.{Shows, StandsIn}
@@ -29,16 +29,17 @@ use Rattle.ia32_rows.specs.Sites.{Framed, Site}
 use Rattle.ia32_rows.specs.Contains.{Contains, HoldsWord, IsPlaceIn}
 use Rattle.ia32_rows.specs.Laws.{Puts}
 use Rattle.ia32_rows.specs.Rows.{changing, widening}
-use Rattle.ia32_rows.proofs.Unary.{complement-puts, extension-puts, negation-puts}
+use Rattle.ia32_rows.proofs.Unary.{complement-puts, extension-puts, negation-puts, zero_extension-puts}
 use Rattle.ia32_laws.specs.Supports.{HoldsWidth, IsSupported, site_of}
 use Rattle.ia32_laws.specs.KeepsOps.{ComplementFollows, ExtensionFollows, NegationFollows, RowAt, after_at}
-use Rattle.ia32_laws.specs.KeepsOps.{before_at}
+use Rattle.ia32_laws.specs.KeepsOps.{ZeroExtensionFollows, before_at}
 use Rattle.ia32_laws.proofs.Shown.{point-supported}
 use Rattle.ia32_laws.proofs.Zones.{shown-in-frame}
 use Rattle.ia32_laws.proofs.Puts.{IsLow, puts-follow}
 use Rattle.ia32_insn.specs.declared.register_names.Reg32.TheVariants.{Ebp}
 use Rattle.ia32_insn.specs.Meaning.{word_of}
 use Rattle.ia32_laws.proofs.Small.{byte-in, byte-small}
+use Rattle.ia32_laws.proofs.Numbers.{zero-extension-is}
 use Rattle.ia32_laws.proofs.Words.{word-fits}
 use Rattle.ia32_laws.proofs.Ops.{at-after, at-before, given-number, has-number, op-is}
 
@@ -158,12 +159,44 @@ extension-follows d a code input g s supported state shown has r =
     let (b, contains, byte) = byte-in code g shown.frames s from (Number x) two stands in
     let low : IsLow code (active_of g) shown.frames (Some Two) (Number x) (extended8 b) =
     (byte-word x byte.0, sym (extended-word x b byte.0 byte.1)) in
-    puts-follow code input g s o d (extended8 b) (Number x) to (widening to from) supported state shown has refl
+    puts-follow code input g s o d (extended8 b) (Number x) to (widening insn.MovSx8 to from) supported state shown has refl
     (λ next h. h)
-    (at-before code g s a from (λ p. widening to p) before
-    (at-after code g s d to (λ p. widening p (before_at code g a)) at r)) at
+    (at-before code g s a from (λ p. widening insn.MovSx8 to p) before
+    (at-after code g s d to (λ p. widening insn.MovSx8 p (before_at code g a)) at r)) at
     (extension-puts (site_of code g.current.function) (placement_of code g.current.function).frame to from b s framed
     four
     for_to.inside for_from.inside contains (byte-small (Number x) b byte))
     (subst (λ (v : Option Width). IsLow code (active_of g) shown.frames v (Number x) (extended8 b)) (sym fits.0) low)
+    tt))
+
+-- ---- a byte without its sign
+
+pub zero-extension-follows : ZeroExtensionFollows
+zero-extension-follows d a code input g s supported state shown has r =
+    followed code input g s (op.Zero d a) false supported state has (
+    given-number (FollowsKept code input s g false) (value_at g a)
+    (λ x. sets code.program g d (Number (zero_extended x))) tt (λ x e.
+    let o : Op = op.Zero d a in
+    let here = point-supported code g o supported state has in
+    let fits = (op-is code g o supported state has).fits in
+    let (to, at) = here.written d refl in
+    let (from, before) = here.read a (inl refl) in
+    let for_to = here.after d to at in
+    let for_from = here.before a from before in
+    let framed = (shown-in-frame code input g s supported state shown).framed in
+    let four = (supported.supports g.current.function state.active.0.function).four_words in
+    let two : HoldsWidth (Some One) from = subst (λ (w : Option Width). HoldsWidth w from) fits.1.0 for_from.holds in
+    let stands = subst (λ (w : Option Width).
+    StandsIn code (active_of g) shown.frames s (word_of Ebp s) w (Number x) from) fits.1.0
+    (shown.variables a (Number x) from e before) in
+    let (b, contains, byte) = byte-in code g shown.frames s from (Number x) two stands in
+    let low : IsLow code (active_of g) shown.frames (Some Two) (Number (zero_extended x)) b =
+    (extended-fits x, byte.1 ∙ sym (zero-extension-is x byte.0)) in
+    puts-follow code input g s o d b (Number (zero_extended x)) to (widening insn.MovZx8 to from) supported state shown
+    has refl (λ next h. h)
+    (at-before code g s a from (λ p. widening insn.MovZx8 to p) before
+    (at-after code g s d to (λ p. widening insn.MovZx8 p (before_at code g a)) at r)) at
+    (zero_extension-puts (site_of code g.current.function) (placement_of code g.current.function).frame to from b s
+    framed four for_to.inside for_from.inside contains (byte-small (Number x) b byte))
+    (subst (λ (v : Option Width). IsLow code (active_of g) shown.frames v (Number (zero_extended x)) b) (sym fits.0) low)
     tt))

@@ -39,7 +39,7 @@ use Rattle.ia32_laws.proofs.Traps.{check-passes, check-traps}
 use Rattle.ia32_laws.specs.AccessesLaws.{FailsAccess, OutsideScratch}
 use Rattle.ia32_laws.proofs.Elements.{all-memory, ebp-outside, scratch-outside}
 use Rattle.ia32_laws.proofs.Loading.{loaded-at}
-use Rattle.ia32_laws.proofs.Storing.{edi-works, target-general, target-read}
+use Rattle.ia32_laws.proofs.Storing.{edi-works, target-general, target-read, alone}
 
 -- ---- on the way
 
@@ -187,9 +187,6 @@ tested site frame p w ys s a holds placed contains fits came =
 record IndexRead (site : Site) (frame : ℕ) (q : Place) (x : ℕ) (s u : State) : Type 0 where
   goes : Goes (OutsideWord Edi) site frame (read (index_register q) q) s u
   value : word_of (index_register q) u ≡ x
-
-alone : (r : Reg32) → (number32 r == number32 r) ≡ true
-alone r = eq-eqb (number32 r) (number32 r) refl
 
 index-read : (site : Site) (frame : ℕ) (q : Place) (x : ℕ) (s : State) → Framed site frame s → HoldsWord q
     → IsPlaceIn frame q → Contains s Two q x → x < 2 ^ 32 → (u : State) × IndexRead site frame q x s u

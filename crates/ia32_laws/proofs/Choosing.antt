@@ -1,9 +1,7 @@
 -- The machine follows a branch on a comparison of two numbers.
-use Rattle.std.proofs.Common.{◌≡◌, ℕ, Bool, true, false, ℤ, List, ◌∷◌, ◌++◌, Option, Some, None}
+use Rattle.std.proofs.Common.{◌≡◌, ℕ, Bool, true, false, List, ◌∷◌, ◌++◌, Option, Some, None}
 use Rattle.std.proofs.Common.{inl, inr, refl, sym, ap, subst, ◌∙◌, append_assoc, arith}
-use Rattle.std.specs.Prelude.{drop, slice_get, unwrap_or, if◌then◌else◌, []}
-use Rattle.std.specs.Int.{w32, cast_unsigned}
-use Rattle.std.proofs.lemmas.Int.{to_z-of_z}
+use Rattle.std.specs.Prelude.{drop, slice_get, if◌then◌else◌, []}
 use Rattle.std.proofs.lemmas.Option.{none-some, same_Some}
 use Rattle.ia32_insn.specs.declared.register_names.Reg32.TheVariants.{Esp, Ebp, Esi}
 use Rattle.ia32_insn.specs.Places.{Place, InWord, InByte, InSlot}
@@ -11,17 +9,15 @@ use Rattle.ia32_insn.specs.declared.item.Item.{Item}
 use Rattle.ia32_insn.specs.declared.item.Item.TheVariants as item
 use Rattle.ia32_insn.specs.State as machine
 use Rattle.ia32_insn.specs.State.{at_address}
-use Rattle.ia32_insn.specs.Arithmetic.{signed}
 use Rattle.ia32_insn.specs.Meaning.{word_of}
 use Rattle.flow_graph.specs.declared.op.Op.{Op}
 use Rattle.flow_graph.specs.declared.op.Op.TheVariants as op
-use Rattle.flow_graph.specs.Graphs.{FitsOp, IsIn, points_of}
+use Rattle.flow_graph.specs.Graphs.{IsIn, points_of}
 use Rattle.flow_graph.specs.Liveness.{BeginsWith, LeadsTo, defined}
-use Rattle.flow_graph.specs.Meaning.{Moved, arrays_compared, at_point, both, compared, first_of, given, into_block}
+use Rattle.flow_graph.specs.Meaning.{at_point, into_block}
 use Rattle.flow_graph.specs.States as graph
 use Rattle.flow_graph.specs.States.{array_at, entry_of, flow_at, number_at, op_at, value_at}
 use Rattle.flow_graph.specs.WellFormed.{IsState}
-use Rattle.flow_graph.proofs.Values.{number-is}
 use Rattle.ia32_rows.specs.Follows.{ComesTo}
 use Rattle.ia32_laws.specs.CoresLaws.{IsOnTheWay}
 use Rattle.ia32_laws.specs.KeepsLaws.{moved_to}
@@ -40,16 +36,13 @@ use Rattle.ia32_rows.proofs.Kept.{PlaceHasCells, PlaceHasMemory, contains-kept, 
 use Rattle.ia32_rows.proofs.Moves.{byte-below, general-below}
 use Rattle.ia32_laws.specs.Supports.{IsSupported, site_of}
 use Rattle.ia32_laws.specs.Protected.{KeepsShown}
-use Rattle.ia32_laws.specs.KeepsOps.{before_at}
 use Rattle.ia32_laws.proofs.Shown.{moved-shows, point-supported}
 use Rattle.ia32_laws.proofs.Zones.{shown-in-frame}
 use Rattle.ia32_laws.proofs.Elsewhere.{at-own-address, keeps-at}
-use Rattle.ia32_laws.proofs.Words.{word-fits}
-use Rattle.ia32_laws.proofs.Ops.{HasNumber, has-number, op-is}
-use Rattle.ia32_rows.specs.Rows.{branching, jumping, loop_label, moves_into, moves_to}
-use Rattle.ia32_laws.specs.CoresOps.{BlockAt, JumpFollows, NumbersBranchFollow, branch_at}
+use Rattle.ia32_rows.specs.Rows.{jumping, moves_into, moves_to}
+use Rattle.ia32_laws.specs.CoresOps.{BlockAt, JumpFollows}
 use Rattle.ia32_laws.proofs.Beside.{same-from}
-use Rattle.ia32_laws.proofs.Branches.{branch-goes}
+use Rattle.flow_graph.proofs.Changes.{first-in}
 
 -- ---- what is kept
 
@@ -60,7 +53,7 @@ scratch-cells frame (InWord r) placed =
 scratch-cells frame (InByte r) placed = let b = byte-below r in inl (omega arith)
 scratch-cells frame (InSlot k) placed = tt
 
-all-memory : (base : ℕ) (q : Place) → PlaceHasMemory Anywhere base q
+pub all-memory : (base : ℕ) (q : Place) → PlaceHasMemory Anywhere base q
 all-memory base (InWord r) = tt
 all-memory base (InByte r) = tt
 all-memory base (InSlot k) = (tt, tt)
@@ -86,11 +79,6 @@ scratch-keeps code g frames s u o supported state has keeps =
     }
 
 -- ---- the branch
-
--- a first point is in its block
-first-in : (q : ℕ) (ps : List ℕ) → slice_get ps 0 ≡ Some q → IsIn q ps
-first-in q [] e = absurd (none-some q e)
-first-in q (p ∷ ps) e = inl (same_Some p q e)
 
 -- on the way to a block
 pub enters : (code : Code) (input : List ℕ) (g : graph.State) (s u : machine.State) (o : Op) (block after : ℕ)
@@ -176,104 +164,6 @@ pub way-of : (code : Code) (g : graph.State) (first second : ℕ) (back : List I
     (if c then first else second)) (if c then first else second) back t
 way-of code g first second back t true way = way
 way-of code g first second back t false way = way
-
-pub numbers-branch-follow : NumbersBranchFollow
-numbers-branch-follow how a b first second code input g s x y rest supported state shown has a_is b_is one_at two_at
-    ready =
-    followed code input g s (op.Branch how a b first second) false supported state has (
-    subst (λ (v : Option Bool). FollowsKept code input s g false (given v go)) (sym known)
-    (chosen (compared how (signed m) (signed n)) refl))
-  where
-    site : Site
-    site = site_of code g.current.function
-
-    frame : ℕ
-    frame = (placement_of code g.current.function).frame
-
-    o : Op
-    o = op.Branch how a b first second
-
-    m : ℕ
-    m = cast_unsigned w32 x
-
-    n : ℕ
-    n = cast_unsigned w32 y
-
-    fits : FitsOp (flow_at code.program g.current.function) o
-    fits = (op-is code g o supported state has).fits
-
-    one : HasNumber code g s a x
-    one = has-number code input g s o a x supported state shown has (inl refl) fits.0 (number-is (value_at g a) x a_is)
-
-    two : HasNumber code g s b y
-    two = has-number code input g s o b y supported state shown has (inr (inl refl)) fits.1.0
-        (number-is (value_at g b) y b_is)
-
-    go : Bool → Moved
-    go c = into_block code.program (if c then first else second) g
-
-    same : compared how (signed m) (signed n) ≡ compared how x y
-    same = ap (λ (z : ℤ). compared how z (signed n)) (to_z-of_z w32 x one.fits)
-        ∙ ap (compared how x) (to_z-of_z w32 y two.fits)
-
-    known : first_of (both (number_at g a) (number_at g b) (compared how))
-        (arrays_compared how (array_at g a) (array_at g b)) ≡ Some (compared how (signed m) (signed n))
-    known =
-        ap (λ (v : Option ℤ). first_of (both v (number_at g b) (compared how))
-        (arrays_compared how (array_at g a) (array_at g b))) a_is
-        ∙ ap (λ (v : Option ℤ). first_of (both (Some x) v (compared how))
-        (arrays_compared how (array_at g a) (array_at g b))) b_is
-        ∙ ap Some (sym same)
-
-    own : at_address s.eip s ≡ s
-    own = at-own-address code g.current.function
-        (branch_at how a b first second code g ++ rest) s supported ready
-
-    -- the moves on the way to a block
-    moves : ℕ → List Item
-    moves block =
-        moves_into (flow_at code.program g.current.function) (placement_of code g.current.function) g.point block
-
-    -- the row, by where the two variables stand
-    row : Place → Place → List Item
-    row p q =
-        branching how (loop_label (flow_at code.program g.current.function) g.point) p q (moves first) (moves second)
-        first second ++ rest
-
-    here : ReadyAt site (row one.place two.place) (at_address s.eip s)
-    here =
-        subst (λ (v : machine.State). ReadyAt site (row one.place two.place) v) (sym own)
-        (subst (λ (p : Place). ReadyAt site (row one.place p) s)
-        (ap (λ (v : Option Place). unwrap_or v (InSlot 0)) two.at)
-        (subst (λ (p : Place). ReadyAt site (row p (before_at code g b)) s)
-        (ap (λ (v : Option Place). unwrap_or v (InSlot 0)) one.at) ready))
-
-    block : (c : Bool) → BlockAt code g (if c then first else second)
-    block true = one_at
-    block false = two_at
-
-    behind : (c : Bool) (next : ℕ)
-        → BeginsWith (flow_at code.program g.current.function) (if c then first else second) next
-        → LeadsTo (flow_at code.program g.current.function) g.point next o
-    behind true next h = inl h
-    behind false next h = inr h
-
-    chosen : (c : Bool) → compared how (signed m) (signed n) ≡ c → FollowsKept code input s g false (go c)
-    chosen c is =
-        let to = block c in
-        let stands = subst (λ (v : Bool).
-        StandsFrom site (to.front ++ (item.Label (if v then first else second) ∷ to.back)) to.start) (sym is)
-        to.stands in
-        let went = branch-goes site frame how (loop_label (flow_at code.program g.current.function) g.point) one.place
-        two.place (moves first) (moves second) first second m n s s.eip to.front to.back rest
-        to.start (shown-in-frame code input g s supported state shown).framed one.holds one.inside two.holds two.inside
-        one.contains two.contains (word-fits x one.fits) (word-fits y two.fits) here stands in
-        enters code input g s went.0 o (if c then first else second) went.3 supported state shown has refl
-        (behind c) went.1 went.2
-        (subst (λ (v : machine.State). Comes code.text v (at_address went.3 went.0)) own went.4) to
-        (way-of code g first second to.back (at_address went.3 went.0) c
-        (subst (λ (v : Bool). IsOnTheWay site (if v then moves first else moves second) (if v then first else second)
-        to.back (at_address went.3 went.0)) is went.5))
 
 -- ---- a jump
 

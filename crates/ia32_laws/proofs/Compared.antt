@@ -54,7 +54,7 @@ pub record HasWord (code : Code) (g : graph.State) (frames : List ℕ) (s : mach
   pub small : word < 2 ^ 32
   pub is : IsWord code (active_of g) frames value word
 
-word-in : (code : Code) (active : List Activation) (frames : List ℕ) (s : machine.State) (value : Value)
+pub word-in : (code : Code) (active : List Activation) (frames : List ℕ) (s : machine.State) (value : Value)
     (place : Place) → HoldsWidth (Some Two) place
     → StandsIn code active frames s (word_of Ebp s) (Some Two) value place
     → (w : ℕ) × HoldsWord place × Contains s Two place w × IsWord code active frames value w

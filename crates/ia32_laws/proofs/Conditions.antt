@@ -1,12 +1,9 @@
 -- 1 or 0 to a place, by a condition.
 use Rattle.std.proofs.Common.{◌≡◌, ◌≢◌, ◌⊎◌, ℕ, ◌+◌, ◌-◌, ◌*◌, ◌<◌, ◌≤◌, Bool, true, false, List, [], ◌∷◌}
-use Rattle.std.proofs.Common.{◌++◌, Option, Some, Ok, length, take, drop, get_or, refl, sym, ap}
+use Rattle.std.proofs.Common.{Option, Some, Ok, get_or, refl, sym, ap}
 use Rattle.std.proofs.Common.{subst, ◌∙◌, inl, inr, arith}
 use Rattle.std.specs.Prelude.{Result, ⊤}
-use Rattle.std.proofs.lemmas.Bool.{le-leb}
 use Rattle.std.proofs.lemmas.List.{get_or-set_same}
-use Rattle.byteorder.specs.Endian.{little_bytes}
-use Rattle.byteorder.specs.Numbers.{length-bytes_low_first}
 use Rattle.pcc_base.specs.Outcome.{End, Stopped}
 use Rattle.pcc_base.specs.declared.run.Stop.TheVariants.{Flags as UnknownFlags}
 use Rattle.ia32_insn.specs.declared.register_names.Reg32.{Reg32}
@@ -17,34 +14,31 @@ use Rattle.ia32_insn.specs.Places.{InWord, InByte, InSlot, IsGeneral}
 use Rattle.ia32_insn.specs.declared.operand.Rm8.TheVariants as rm8
 use Rattle.ia32_insn.specs.declared.insn.Cond.{Cond}
 use Rattle.ia32_insn.specs.declared.insn.Insn.TheVariants as insn
-use Rattle.ia32_insn.specs.State.{Area, State, at_address, stored, with_bytes}
-use Rattle.ia32_insn.specs.Keeps.{AreDisjoint, KeepsAllButMemory}
-use Rattle.ia32_insn.specs.Items.{plain, text_area}
-use Rattle.ia32_insn.specs.Arithmetic.{holds, signed}
-use Rattle.ia32_insn.specs.Meaning.{address_of, and_then, bit, byte_of, denied, load, or_end, store, with_byte}
-use Rattle.ia32_insn.specs.Meaning.{with_word, word_of}
-use Rattle.ia32_insn.proofs.Access.{load-elsewhere, load-stored, store-keeps_rest}
-use Rattle.ia32_insn.proofs.Splices.{length-replaced}
-use Rattle.flow_graph.specs.Meaning.{compared}
+use Rattle.ia32_insn.specs.State.{State, at_address}
+use Rattle.ia32_insn.specs.Keeps.{AreDisjoint}
+use Rattle.ia32_insn.specs.Items.{plain}
+use Rattle.ia32_insn.specs.Arithmetic.{holds}
+use Rattle.ia32_insn.specs.Meaning.{address_of, and_then, bit, byte_of, load, or_end, store, with_byte}
+use Rattle.ia32_insn.specs.Meaning.{word_of}
 use Rattle.ia32_rows.specs.Placements.{below}
-use Rattle.ia32_rows.specs.Sites.{Anywhere, Framed, Site, SoundAt, data_from}
+use Rattle.ia32_rows.specs.Sites.{Anywhere, Framed, Site, SoundAt}
 use Rattle.ia32_rows.proofs.Frames.{below-address, with_result}
-use Rattle.ia32_rows.proofs.Sound.{areas-apart, load-in, load-same, word-below, word-same}
+use Rattle.ia32_rows.proofs.Sound.{word-below, word-same}
 use Rattle.ia32_rows.specs.Effects.{Keeps, Makes, OutsideWord}
 use Rattle.ia32_rows.specs.Contains.{ApartFromPlace, IsPlaceIn, Untouched}
 use Rattle.ia32_rows.specs.Laws.{Puts}
 use Rattle.ia32_rows.proofs.Kept.{byte-keeps, framed-kept, keeps-stricter, keeps-then, other-cells}
 use Rattle.ia32_rows.proofs.Kept.{word-kept}
-use Rattle.ia32_rows.proofs.Instructions.{below-loaded, byte_number-makes, result-makes, store-at}
+use Rattle.ia32_rows.proofs.Instructions.{byte_number-makes, result-makes, store-at}
 use Rattle.ia32_rows.proofs.Moves.{byte-below, general-works, write-puts}
 use Rattle.ia32_rows.proofs.Straight.{leads-join}
 use Rattle.ia32_rows.proofs.Sums.{esi-works}
-use Rattle.ia32_rows.specs.Rows.{cond_of}
 use Rattle.ia32_rows.specs.Rows.{comparing, low_byte, set_row}
 use Rattle.ia32_laws.specs.CoresLaws.{SetPuts}
+use Rattle.ia32_rows.proofs.Bytes.{StoredByte, store-byte-in, stored_byte-keeps}
+use Rattle.ia32_rows.proofs.Unary.{zero_slot-makes}
 use Rattle.ia32_laws.proofs.Flags.{places-compare}
 use Rattle.ia32_laws.proofs.Goes.{Goes, goes-stricter, goes-then, result-goes}
-use Rattle.ia32_laws.proofs.Numbers.{comparison-decides}
 
 -- ---- to a register
 
@@ -109,64 +103,6 @@ set_register-goes site frame c d b s framed general e =
 
 -- ---- to a slot
 
--- what a store of a byte in the data leaves
-record StoredByte (site : Site) (a value : ℕ) (s t : State) : Type 0 where
-  is : store 1 a value s ≡ Ok t
-  sound : SoundAt site t
-  same : load 1 a t ≡ Ok value
-  apart : (n b v : ℕ) → AreDisjoint a 1 b n → load n b s ≡ Ok v → load n b t ≡ Ok v
-  rest : KeepsAllButMemory s t
-
-store-byte-in : (site : Site) (a value : ℕ) (s : State) → SoundAt site s → site.low ≤ a → a + 1 ≤ site.high
-    → value < 256 → (t : State) × StoredByte site a value s t
-store-byte-in site a value s h from to fits =
-    let new : List ℕ = little_bytes 1 value in
-    let one_long : length new ≡ 1 = length-bytes_low_first 0 1 value in
-    let size = h.size in
-    let one = le-leb site.low a from in
-    let two = le-leb (a + length new) (site.low + length h.bytes) (omega (arith, one_long)) in
-    let memory : List Area = text_area site.text ∷ with_bytes a new (data_from site.low h.bytes) ∷ [] in
-    let done : stored a new s.memory ≡ Some memory = ap (stored a new) h.memory ∙ rw (one, two) refl in
-    let t : State = record s { memory = memory } in
-    let is : store 1 a value s ≡ Ok t = ap (λ (o : Option (List Area)).
-    and_then (or_end o (denied a s)) (λ m. let r : Result State End = Ok (record s { memory = m }) in r)) done in
-    let bytes : List ℕ = take (a - site.low) h.bytes ++ new ++ drop (a - site.low + length new) h.bytes in
-    let long : length bytes ≡ length h.bytes = length-replaced (a - site.low) new h.bytes (omega (arith, one_long)) in
-    let sound : SoundAt site t = record {
-      bytes = bytes;
-      memory = refl;
-      size = ap (λ (k : ℕ). site.low + k) long ∙ size;
-      above = h.above;
-      below = h.below;
-      registers = h.registers;
-    } in
-    let old = load-in site.text site.low site.high 1 a s h from to in (
-      t,
-      record {
-        is = is;
-        sound = sound;
-        same = load-stored 1 a value old.0 s t (omega arith) fits (areas-apart site.text site.low site.high s h) old.1
-            is;
-        apart = λ n b v places e. load-elsewhere a 1 b n value s t is places ∙ e;
-        rest = store-keeps_rest a new s t is;
-      },
-    )
-
-stored_byte-keeps : (site : Site) (a v : ℕ) (s t : State) → StoredByte site a v s t
-    → Keeps (λ k. ⊤) (λ b n. AreDisjoint a 4 b n) s t
-stored_byte-keeps site a v s t h =
-    record {
-      cells = λ k r. ap (λ (cells : List ℕ). get_or cells k 0) h.rest.registers;
-      loads = λ n b w k e. h.apart n b w (narrow a b n k) e;
-      left = h.rest.left;
-      taken = h.rest.taken;
-      written = h.rest.written;
-    }
-  where
-    narrow : (a b n : ℕ) → AreDisjoint a 4 b n → AreDisjoint a 1 b n
-    narrow a b n (inl p) = inl (omega arith)
-    narrow a b n (inr p) = inr p
-
 -- SETcc of the low byte of a slot
 set_slot-makes : (site : Site) (frame : ℕ) (c : Cond) (k : ℕ) (b : Bool) (s : State) → Framed site frame s → 4 ≤ k
     → k ≤ frame → holds c s.flags ≡ Some b
@@ -190,20 +126,6 @@ set_slot-makes site frame c k b s framed some within e =
         sound = m.1.sound;
       },
     )
-
--- MOVZX of a byte of the frame
-zero_slot-makes : (site : Site) (frame : ℕ) (r : Reg32) (k v : ℕ) (s : State) → Framed site frame s → 0 < k → k ≤ frame
-    → load 1 (word_of Ebp s - k) s ≡ Ok v
-    → Makes site (insn.MovZx8 r (rm8.Mem (below k))) s (with_result r v s.flags s)
-zero_slot-makes site frame r k v s framed some within held =
-    let loaded = below-loaded site frame k 1 v s framed some within held in
-    record {
-      straight = tt;
-      does = λ address. ap (λ (x : Result ℕ End). and_then x
-          (λ value. let q : Result State End = Ok (with_word r value (at_address address s)) in q))
-          (load-same 1 (address_of (below k) s) v s (at_address address s) refl loaded);
-      sound = result-makes site r v s.flags s framed.sound;
-    }
 
 set_slot-puts : (site : Site) (frame : ℕ) (c : Cond) (k : ℕ) (b : Bool) (s : State) → Framed site frame s → 16 ≤ frame
     → IsPlaceIn frame (InSlot k) → holds c s.flags ≡ Some b
@@ -245,19 +167,18 @@ set_slot-puts site frame c k b s framed room placed e =
 -- ---- after a comparison
 
 pub set-puts : SetPuts
-set-puts site frame how (InByte d) q r x y s framed room word to a a_placed b b_placed one two fits also = absurd word
-set-puts site frame how (InWord d) q r x y s framed room word to a a_placed b b_placed one two fits also =
+set-puts site frame c t (InByte d) q r x y s framed room word to a a_placed b b_placed one two fits decided =
+    absurd word
+set-puts site frame c t (InWord d) q r x y s framed room word to a a_placed b b_placed one two fits decided =
     let known = places-compare site frame q r x y s framed a a_placed b b_placed one two fits in
     let m : State = known.0 in
-    let decided = ap (holds (cond_of how)) known.1.flags ∙ comparison-decides how x y fits also in
-    let last = set_register-goes site frame (cond_of how) d (compared how (signed x) (signed y)) m known.1.framed to
-    decided in
+    let last = set_register-goes site frame c d t m known.1.framed to (ap (holds c) known.1.flags ∙ decided) in
     let u : State = last.0 in
     let S : ℕ → Type 0 = Untouched (InWord d) in
     let K : ℕ → ℕ → Type 0 = ApartFromPlace (word_of Ebp s) (InWord d) in (
       u,
       record {
-        leads = leads-join site (comparing q r) (set_row (cond_of how) (InWord d)) s m u known.1.leads last.1.leads;
+        leads = leads-join site (comparing q r) (set_row c (InWord d)) s m u known.1.leads last.1.leads;
         holds = last.2;
         framed = last.1.framed;
         keeps = keeps-then S K s m u
@@ -265,12 +186,10 @@ set-puts site frame how (InWord d) q r x y s framed room word to a a_placed b b_
             (keeps-stricter (OutsideWord d) S Anywhere K m u (λ k h. h.0) (λ j n l. tt) last.1.keeps);
       },
     )
-set-puts site frame how (InSlot d) q r x y s framed room word to a a_placed b b_placed one two fits also =
+set-puts site frame c t (InSlot d) q r x y s framed room word to a a_placed b b_placed one two fits decided =
     let known = places-compare site frame q r x y s framed a a_placed b b_placed one two fits in
     let m : State = known.0 in
-    let decided = ap (holds (cond_of how)) known.1.flags ∙ comparison-decides how x y fits also in
-    let last = set_slot-puts site frame (cond_of how) d (compared how (signed x) (signed y)) m known.1.framed room to
-    decided in
+    let last = set_slot-puts site frame c d t m known.1.framed room to (ap (holds c) known.1.flags ∙ decided) in
     let u : State = last.0 in
     let S : ℕ → Type 0 = Untouched (InSlot d) in
     let K : ℕ → ℕ → Type 0 = ApartFromPlace (word_of Ebp s) (InSlot d) in
@@ -278,7 +197,7 @@ set-puts site frame how (InSlot d) q r x y s framed room word to a a_placed b b_
     (other-cells Ebp Esi (λ e. omega arith)) in (
       u,
       record {
-        leads = leads-join site (comparing q r) (set_row (cond_of how) (InSlot d)) s m u known.1.leads last.1.leads;
+        leads = leads-join site (comparing q r) (set_row c (InSlot d)) s m u known.1.leads last.1.leads;
         holds = last.1.holds;
         framed = last.1.framed;
         keeps = keeps-then S K s m u

@@ -18,11 +18,11 @@ use Rattle.flow_graph.specs.declared.op.Op.{Op}
 use Rattle.flow_graph.specs.declared.op.Op.TheVariants as op
 use Rattle.flow_graph.specs.Graphs.{HasWidth, IsIn}
 use Rattle.flow_graph.specs.Liveness.{IsBehind, LeadsTo, defined, uses}
-use Rattle.flow_graph.specs.Meaning.{given, sets, shift_count, shifted_right}
+use Rattle.flow_graph.specs.Meaning.{given, sets, shift_count, shifted_right, shifted_unsigned}
 use Rattle.flow_graph.specs.States as graph
 use Rattle.flow_graph.specs.States.{active_of, flow_at, number_of, op_at, value_at}
 use Rattle.flow_graph.specs.WellFormed.{IsState}
-use Rattle.flow_graph.proofs.Numbers.{shift-fits}
+use Rattle.flow_graph.proofs.Numbers.{shift-fits, signed-fits}
 use Rattle.ia32_laws.proofs.Landing.{FollowsKept, followed}
 use Rattle.ia32_rows.specs.Placements.{Code, placement_of}
 use Rattle.ia32_rows.specs.Shows.{Shows, StandsIn}
@@ -39,9 +39,9 @@ use Rattle.ia32_laws.proofs.Ops.{at-after, at-before, given-number, has-number, 
 use Rattle.ia32_insn.specs.declared.register_names.Reg8.TheVariants.{Cl}
 use Rattle.ia32_rows.specs.Rows.{shifting}
 use Rattle.ia32_laws.specs.CoresLaws.{SparedByShift}
-use Rattle.ia32_laws.specs.CoresOps.{LeftShiftFollows, RightShiftFollows}
+use Rattle.ia32_laws.specs.CoresOps.{LeftShiftFollows, RightShiftFollows, UnsignedRightShiftFollows}
 use Rattle.ia32_laws.proofs.Beside.{Spares, beside-follows}
-use Rattle.ia32_laws.proofs.Numbers.{left-shift-is, right-shift-is}
+use Rattle.ia32_laws.proofs.Numbers.{left-shift-is, right-shift-is, unsigned-shift-is}
 use Rattle.ia32_laws.proofs.Shifts.{shift-puts}
 
 -- a place apart from CL has other cells
@@ -128,4 +128,13 @@ right-shift-follows d a c code input g s supported state shown has r =
     shift-follows shift.Sar (λ x n. shifted_right x (shift_count n)) (op.Sar d a c) d a c code input g s
     (record { fits = λ x n h. shift-fits x (shift_count n) h; word = right-shift-is })
     (shift-spares (op.Sar d a c) (λ q h. h)) refl (inl refl) (inr (inl refl)) (λ next h. h) fits.0 fits.1.0 fits.1.1.0
+    supported state shown has r)
+
+pub unsigned-right-shift-follows : UnsignedRightShiftFollows
+unsigned-right-shift-follows d a c code input g s supported state shown has r =
+    followed code input g s (op.Shr d a c) false supported state has (
+    let fits = (op-is code g (op.Shr d a c) supported state has).fits in
+    shift-follows shift.Shr (λ x n. shifted_unsigned x (shift_count n)) (op.Shr d a c) d a c code input g s
+    (record { fits = λ x n h. signed-fits _; word = unsigned-shift-is })
+    (shift-spares (op.Shr d a c) (λ q h. h)) refl (inl refl) (inr (inl refl)) (λ next h. h) fits.0 fits.1.0 fits.1.1.0
     supported state shown has r)

@@ -27,7 +27,7 @@ use Rattle.ia32_rows.proofs.First.{zero-registers}
 use Rattle.flow_graph.proofs.Lists.{All-at}
 use Rattle.ia32_insn.proofs.Objects.{elements-within, length-elements}
 use Rattle.ia32_laws.specs.Supports.{IsSupported}
-use Rattle.ia32_laws.proofs.Memory.{long-data, text-above}
+use Rattle.ia32_laws.proofs.Memory.{long-data, text-above, whole-small}
 use Rattle.ia32_laws.specs.StartsLaws.{DataBegin, image_state}
 use Rattle.ia32_laws.proofs.Parts.{ElementIn, ObjectIn, all_objects, element-in, object-in}
 use Rattle.ia32_laws.proofs.Parts.{one_element}
@@ -47,6 +47,7 @@ begins-sound text objects input fits =
       size = long-data text objects;
       above = text-above text;
       below = fits;
+      small = whole-small objects (data_memory objects - length (data_bytes objects));
       registers = zero-registers;
     }
 

@@ -27,6 +27,7 @@ use Rattle.ia32_rows.specs.Effects.{Keeps, OutsideWord}
 use Rattle.ia32_rows.proofs.Kept.{keeps-stricter, keeps-then, result-keeps, stored-keeps}
 use Rattle.ia32_laws.proofs.Traps.{check-passes, check-traps}
 use Rattle.ia32_laws.specs.ActivationsLaws.{Counts, DepthCounts, DepthFails, DepthUncounts, HasDepth}
+use Rattle.ia32_laws.proofs.Loading.{near-address as pointed-address}
 
 -- the places apart from the depth word
 abbrev Beside : Site → ℕ → ℕ → Type 0
@@ -96,10 +97,6 @@ points site items s sound has ready =
         keeps = moved-keeps (OutsideWord Esi) Anywhere went.0 s t (result-keeps site Esi target s.flags s sound);
       },
     )
-
--- the word that ESI points to
-pointed-address : (base : ℕ) → base < 0x1_0000_0000 → (base + 0 + 0) % 0x1_0000_0000 ≡ base
-pointed-address base h = omega (arith, h)
 
 pointed-loaded : (site : Site) (d : ℕ) (s : State) → SoundAt site s → HasDepth site
     → word_of Esi s ≡ site.symbols.depth → load 4 site.symbols.depth s ≡ Ok d

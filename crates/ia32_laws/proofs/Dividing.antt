@@ -1,7 +1,8 @@
 -- Rows of divisions.
 use Rattle.std.proofs.Common.{◌≡◌, ◌≢◌, ◌⊎◌, ℕ, ◌+◌, ◌-◌, ◌*◌, ◌^◌, ◌<◌, Bool, true, false, [], ◌∷◌, ◌++◌}
 use Rattle.std.proofs.Common.{Option, Some, None, Ok, refl, sym, ap, subst, ◌∙◌, inl, inr, arith}
-use Rattle.std.specs.Prelude.{◌==◌, ◌||◌, Result, if◌then◌else◌}
+use Rattle.std.specs.Prelude.{◌==◌, ◌||◌, List, Result, bit_xor, if◌then◌else◌}
+use Rattle.std.specs.Int.Bits.{xor_self}
 use Rattle.pcc_base.specs.Outcome.{End}
 use Rattle.pcc_base.specs.declared.run.Width.TheVariants.{Two}
 use Rattle.ia32_insn.specs.declared.register_names.Reg32.{Reg32}
@@ -11,27 +12,30 @@ use Rattle.ia32_insn.specs.Places.{Place, InWord, InByte, InSlot}
 use Rattle.ia32_insn.specs.declared.operand.Mem.{Mem}
 use Rattle.ia32_insn.specs.declared.operand.Rm32.{Rm32}
 use Rattle.ia32_insn.specs.declared.operand.Rm32.TheVariants as rm
+use Rattle.ia32_insn.specs.declared.insn.AluOp.TheVariants as alu
 use Rattle.ia32_insn.specs.declared.insn.Insn.{Insn}
 use Rattle.ia32_insn.specs.declared.insn.Insn.TheVariants as insn
+use Rattle.ia32_insn.specs.declared.item.Item.{Item}
 use Rattle.ia32_insn.specs.State.{State, at_address}
-use Rattle.ia32_insn.specs.Arithmetic.{is_negative, sign_word, signed_divided}
-use Rattle.ia32_insn.specs.Meaning.{address_of, and_then, dividend, load, read32, take_quotient, with_word, word_of}
+use Rattle.ia32_insn.specs.Arithmetic.{divided, is_negative, sign_word, signed_divided}
+use Rattle.ia32_insn.specs.Meaning.{address_of, and_then, dividend, effect, load, read32, take_quotient, with_word}
+use Rattle.ia32_insn.specs.Meaning.{word_of}
 use Rattle.ia32_insn.specs.Items.{plain}
 use Rattle.ia32_rows.specs.Placements.{below}
 use Rattle.ia32_rows.specs.Sites.{Anywhere, Framed, IsInFrame, Site}
 use Rattle.ia32_rows.proofs.Frames.{with_result}
 use Rattle.ia32_rows.proofs.Sound.{load-same, sound-with_word, word-same}
 use Rattle.ia32_rows.specs.Rows.{read}
-use Rattle.ia32_rows.specs.Effects.{Keeps, Makes, OutsideWord}
+use Rattle.ia32_rows.specs.Effects.{IsStraight, Keeps, Makes, OutsideWord}
 use Rattle.ia32_rows.specs.Contains.{Contains, HoldsWord, IsPlaceIn}
 use Rattle.ia32_rows.proofs.Kept.{HasCells, contains-kept, framed-kept, keeps-same, keeps-stricter, keeps-then}
 use Rattle.ia32_rows.proofs.Kept.{other-cells, result-keeps, word-kept}
 use Rattle.ia32_rows.proofs.Instructions.{below-loaded, result-makes}
 use Rattle.ia32_rows.proofs.Moves.{general-works, read-gives, unlike}
-use Rattle.ia32_rows.proofs.Sums.{IsOutside, esi-outside, esi-works}
-use Rattle.ia32_rows.specs.Rows.{before_division, clear_divisor, divisor_of}
-use Rattle.ia32_laws.specs.CoresLaws.{SparedByDivision}
-use Rattle.ia32_laws.specs.CoresLaws.{DivisionStops, QuotientPuts, RemainderPuts}
+use Rattle.ia32_rows.proofs.Sums.{IsOutside, esi-outside, esi-works, operate-gives}
+use Rattle.ia32_rows.specs.Rows.{before_division, clear_divisor, divisor_of, zero_edx}
+use Rattle.ia32_laws.specs.CoresLaws.{DivisionStops, QuotientPuts, RemainderPuts, Signed, Signedness, SparedByDivision}
+use Rattle.ia32_laws.specs.CoresLaws.{Unsigned, divide_by, divided_by, upper_by, upper_word}
 use Rattle.ia32_laws.proofs.Goes.{Goes, goes-of, goes-stricter, goes-then, result-goes, then-written}
 
 -- ---- the divisor
@@ -125,9 +129,9 @@ word-there t (InSlot k) y s m other outside keeps contains =
     contains-kept (OutsideWord t) Anywhere s m Two (InSlot k) y keeps (other-cells Ebp t other) tt (tt, tt) contains
 
 -- the dividend is in EDX:EAX, and the divisor where it is read
-record Divides (site : Site) (frame : ℕ) (q r : Place) (x y : ℕ) (s u : State) : Type 0 where
-  goes : Goes Spared site frame (before_division q r) s u
-  dividend : word_of Edx u * 2 ^ 32 + word_of Eax u ≡ sign_word x * 2 ^ 32 + x
+record Divides (how : Signedness) (site : Site) (frame : ℕ) (q r : Place) (x y : ℕ) (s u : State) : Type 0 where
+  goes : Goes Spared site frame (before_division (upper_by how) q r) s u
+  dividend : word_of Edx u * 2 ^ 32 + word_of Eax u ≡ upper_word how x * 2 ^ 32 + x
   divisor : HasDivisor frame (divisor_of r) y u
 
 sign-small : (x : ℕ) → sign_word x < 2 ^ 32
@@ -137,87 +141,111 @@ sign-small x = by (is_negative x)
     by true = omega arith
     by false = omega arith
 
-divides : (site : Site) (frame : ℕ) (q r : Place) (x y : ℕ) (s : State) → Framed site frame s → HoldsWord q
-    → IsPlaceIn frame q → HoldsWord r → IsPlaceIn frame r → Contains s Two q x → Contains s Two r y → x < 2 ^ 32
-    → y < 2 ^ 32 → (u : State) × Divides site frame q r x y s u
-divides site frame q r x y s framed a a_placed b b_placed one two fits also =
+-- the upper word comes to EDX: by CDQ of EAX, or by XOR of EDX with itself
+upper-goes : (how : Signedness) (site : Site) (frame x : ℕ) (s : State) → Framed site frame s → word_of Eax s ≡ x
+    → (u : State) × Goes (OutsideWord Edx) site frame (plain (upper_by how) ∷ []) s u
+    × (word_of Edx u ≡ upper_word how x)
+upper-goes Signed site frame x s framed is =
+    let v : ℕ = sign_word (word_of Eax s) in
+    let makes : Makes site insn.Cdq s (with_result Edx v s.flags s) =
+    record { straight = tt; does = λ address. refl; sound = result-makes site Edx v s.flags s framed.sound } in (
+      with_result Edx v s.flags s,
+      result-goes site frame insn.Cdq Edx v s.flags s framed (general-works Edx tt) makes,
+      word-same site.text site.low site.high Edx v s framed.sound (sign-small (word_of Eax s)) ∙ ap sign_word is,
+    )
+upper-goes Unsigned site frame x s framed is =
+    let v : ℕ = word_of Edx s in
+    let none : bit_xor v v ≡ 0 = xor_self v in
+    let one = operate-gives site frame alu.Xor Edx (InWord Edx) v v s framed (general-works Edx tt) tt tt tt refl refl
+    (subst (λ (k : ℕ). k < 2 ^ 32) (sym none) (omega arith)) in
+    (one.0, goes-of site frame (plain zero_edx ∷ []) Edx (bit_xor v v) s one.0 one.1, one.1.value ∙ none)
+
+divides : (how : Signedness) (site : Site) (frame : ℕ) (q r : Place) (x y : ℕ) (s : State) → Framed site frame s
+    → HoldsWord q → IsPlaceIn frame q → HoldsWord r → IsPlaceIn frame r → Contains s Two q x → Contains s Two r y
+    → x < 2 ^ 32 → y < 2 ^ 32 → (u : State) × Divides how site frame q r x y s u
+divides how site frame q r x y s framed a a_placed b b_placed one two fits also =
     let first = clear-goes site frame r y s framed b b_placed two also in
     let m : State = first.0 in
     let there : Contains m Two q x = word-there Esi q x s m (λ e. omega (arith, e)) (esi-outside frame q a a_placed)
     first.1.keeps one in
     let second = read-gives site frame Eax q x m first.1.framed (general-works Eax tt) a a_placed there fits in
     let n : State = second.0 in
-    let v : ℕ = sign_word (word_of Eax n) in
-    let makes : Makes site insn.Cdq n (with_result Edx v n.flags n) =
-    record { straight = tt; does = λ address. refl; sound = result-makes site Edx v n.flags n second.1.framed.sound } in
-    let third = result-goes site frame insn.Cdq Edx v n.flags n second.1.framed (general-works Edx tt) makes in
-    let u : State = with_result Edx v n.flags n in
-    let high : word_of Edx u ≡ sign_word x = word-same site.text site.low site.high Edx v n second.1.framed.sound
-    (sign-small (word_of Eax n)) ∙ ap sign_word second.1.value in
-    let low : word_of Eax u ≡ x = word-kept (OutsideWord Edx) Anywhere Eax n u third.keeps
+    let third = upper-goes how site frame x n second.1.framed second.1.value in
+    let u : State = third.0 in
+    let low : word_of Eax u ≡ x = word-kept (OutsideWord Edx) Anywhere Eax n u third.1.keeps
     (other-cells Eax Edx (λ e. omega (arith, e))) ∙ second.1.value in (
       u,
       record {
-        goes = goes-then Spared site frame (clear_divisor r ++ read Eax q) (plain insn.Cdq ∷ []) s n u
+        goes = goes-then Spared site frame (clear_divisor r ++ read Eax q) (plain (upper_by how) ∷ []) s n u
             (goes-then Spared site frame (clear_divisor r) (read Eax q) s m n
             (goes-stricter (OutsideWord Esi) Spared site frame (clear_divisor r) s m (λ k h. h.0) first.1)
             (goes-stricter (OutsideWord Eax) Spared site frame (read Eax q) m n (λ k h. h.1.0)
             (goes-of site frame (read Eax q) Eax x m n second.1)))
-            (goes-stricter (OutsideWord Edx) Spared site frame (plain insn.Cdq ∷ []) n u (λ k h. h.1.1) third);
-        dividend = ap (λ (k : ℕ). k * 2 ^ 32 + word_of Eax u) high ∙ ap (λ (k : ℕ). sign_word x * 2 ^ 32 + k) low;
-        divisor = divisor-kept frame (divisor_of r) Edx y n u (inr refl) third.keeps
+            (goes-stricter (OutsideWord Edx) Spared site frame (plain (upper_by how) ∷ []) n u (λ k h. h.1.1) third.1);
+        dividend = ap (λ (k : ℕ). k * 2 ^ 32 + word_of Eax u) third.2
+            ∙ ap (λ (k : ℕ). upper_word how x * 2 ^ 32 + k) low;
+        divisor = divisor-kept frame (divisor_of r) Edx y n u (inr refl) third.1.keeps
             (divisor-kept frame (divisor_of r) Eax y m n (inl refl) second.1.keeps first.2);
       },
     )
 
 -- ---- the division
 
--- what IDIV does is what is made of the result, wherever EIP is
-idiv-is : (site : Site) (frame : ℕ) (q r : Place) (x y : ℕ) (s u : State) (result : Option (ℕ × ℕ)) (address : ℕ)
-    → Divides site frame q r x y s u → signed_divided (sign_word x * 2 ^ 32 + x) y ≡ result
-    → and_then (read32 (divisor_of r) (at_address address u))
-    (λ value. take_quotient (signed_divided (dividend (at_address address u)) value) (at_address address u))
-    ≡ take_quotient result (at_address address u)
-idiv-is site frame q r x y s u result address h e =
+-- what a division does is what is made of the result, wherever EIP is
+division-is : (how : Signedness) (site : Site) (frame : ℕ) (q r : Place) (x y : ℕ) (s u : State)
+    (result : Option (ℕ × ℕ)) (address : ℕ) → Divides how site frame q r x y s u → divided_by how x y ≡ result
+    → effect (divide_by how (divisor_of r)) 0 (at_address address u) ≡ take_quotient result (at_address address u)
+division-is Signed site frame q r x y s u result address h e =
     let here : State = at_address address u in
     ap (λ (v : Result ℕ End). and_then v (λ value. take_quotient (signed_divided (dividend here) value) here))
     (divisor-read site frame (divisor_of r) y u address h.goes.framed h.divisor)
     ∙ ap (λ (n : ℕ). take_quotient (signed_divided n y) here) h.dividend
     ∙ ap (λ (o : Option (ℕ × ℕ)). take_quotient o here) e
+division-is Unsigned site frame q r x y s u result address h e =
+    let here : State = at_address address u in
+    ap (λ (v : Result ℕ End). and_then v (λ value. take_quotient (divided (dividend here) value) here))
+    (divisor-read site frame (divisor_of r) y u address h.goes.framed h.divisor)
+    ∙ ap (λ (n : ℕ). take_quotient (divided n y) here) h.dividend
+    ∙ ap (λ (o : Option (ℕ × ℕ)). take_quotient o here) e
+
+division-straight : (how : Signedness) (operand : Rm32) → IsStraight (divide_by how operand)
+division-straight Signed operand = tt
+division-straight Unsigned operand = tt
 
 pub division-stops : DivisionStops
-division-stops site frame q r x y s framed a a_placed b b_placed one two fits also none =
-    let before = divides site frame q r x y s framed a a_placed b b_placed one two fits also in
+division-stops how site frame q r x y s framed a a_placed b b_placed one two fits also none =
+    let before = divides how site frame q r x y s framed a a_placed b b_placed one two fits also in
     let u : State = before.0 in (
       u,
       record {
         leads = before.1.goes.leads;
         framed = before.1.goes.framed;
         keeps = before.1.goes.keeps;
-        traps = λ address. idiv-is site frame q r x y s u None address before.1 none;
+        traps = λ address. division-is how site frame q r x y s u None address before.1 none;
       },
     )
 
 -- the quotient in EAX and the remainder in EDX
-record Divided (site : Site) (frame : ℕ) (q r : Place) (v w : ℕ) (s u : State) : Type 0 where
-  goes : Goes Spared site frame (before_division q r ++ plain (insn.IDiv (divisor_of r)) ∷ []) s u
+record Divided (how : Signedness) (site : Site) (frame : ℕ) (q r : Place) (v w : ℕ) (s u : State) : Type 0 where
+  goes : Goes Spared site frame
+      (before_division (upper_by how) q r ++ plain (divide_by how (divisor_of r)) ∷ []) s u
   quotient : word_of Eax u ≡ v
   remainder : word_of Edx u ≡ w
 
-is-divided : (site : Site) (frame : ℕ) (q r : Place) (x y v w : ℕ) (s : State) → Framed site frame s → HoldsWord q
-    → IsPlaceIn frame q → HoldsWord r → IsPlaceIn frame r → Contains s Two q x → Contains s Two r y → x < 2 ^ 32
-    → y < 2 ^ 32 → signed_divided (sign_word x * 2 ^ 32 + x) y ≡ Some (v, w) → v < 2 ^ 32 → w < 2 ^ 32
-    → (u : State) × Divided site frame q r v w s u
-is-divided site frame q r x y v w s framed a a_placed b b_placed one two fits also some v_fits w_fits =
-    let before = divides site frame q r x y s framed a a_placed b b_placed one two fits also in
+is-divided : (how : Signedness) (site : Site) (frame : ℕ) (q r : Place) (x y v w : ℕ) (s : State)
+    → Framed site frame s → HoldsWord q → IsPlaceIn frame q → HoldsWord r → IsPlaceIn frame r → Contains s Two q x
+    → Contains s Two r y → x < 2 ^ 32 → y < 2 ^ 32 → divided_by how x y ≡ Some (v, w) → v < 2 ^ 32 → w < 2 ^ 32
+    → (u : State) × Divided how site frame q r v w s u
+is-divided how site frame q r x y v w s framed a a_placed b b_placed one two fits also some v_fits w_fits =
+    let before = divides how site frame q r x y s framed a a_placed b b_placed one two fits also in
     let m : State = before.0 in
-    let i : Insn = insn.IDiv (divisor_of r) in
+    let i : Insn = divide_by how (divisor_of r) in
     let n : State = with_word Eax v m in
     let sound_n = sound-with_word site.text site.low site.high Eax v m before.1.goes.framed.sound in
     let u : State = with_result Edx w None n in
     let makes : Makes site i m u = record {
-      straight = tt;
-      does = λ address. idiv-is site frame q r x y s m (Some (v, w)) address before.1 some;
+      straight = division-straight how (divisor_of r);
+      does = λ address. division-is how site frame q r x y s m (Some (v, w)) address before.1 some;
       sound = result-makes site Edx w None n sound_n;
     } in
     let one_keeps : Keeps (OutsideWord Eax) Anywhere m n = result-keeps site Eax v m.flags m
@@ -235,7 +263,7 @@ is-divided site frame q r x y v w s framed a a_placed b b_placed one two fits al
     } in (
       u,
       record {
-        goes = goes-then Spared site frame (before_division q r) (plain i ∷ []) s m u before.1.goes last;
+        goes = goes-then Spared site frame (before_division (upper_by how) q r) (plain i ∷ []) s m u before.1.goes last;
         quotient = word-kept (OutsideWord Edx) Anywhere Eax n u two_keeps
             (other-cells Eax Edx (λ e. omega (arith, e)))
             ∙ word-same site.text site.low site.high Eax v m before.1.goes.framed.sound v_fits;
@@ -247,14 +275,22 @@ is-divided site frame q r x y v w s framed a a_placed b b_placed one two fits al
 has-ebp : HasCells Spared Ebp
 has-ebp k h = (inl (omega arith), (inr (omega arith), inr (omega arith)))
 
+-- the items before the part is written to its place
+abbrev dividing_items : Signedness → Place → Place → List Item
+dividing_items how q r = before_division (upper_by how) q r ++ plain (divide_by how (divisor_of r)) ∷ []
+
 pub quotient-puts : QuotientPuts
-quotient-puts site frame p q r x y v w s framed room to a a_placed b b_placed one two fits also some v_fits w_fits =
-    let done = is-divided site frame q r x y v w s framed a a_placed b b_placed one two fits also some v_fits w_fits in
-    then-written Spared SparedByDivision site frame (before_division q r ++ plain (insn.IDiv (divisor_of r)) ∷ []) p Eax
-    v s done.0 done.1.goes has-ebp (λ k h g. (h.1, g)) room to done.1.quotient
+quotient-puts how site frame p q r x y v w s framed room to a a_placed b b_placed one two fits also some v_fits
+    w_fits =
+    let done = is-divided how site frame q r x y v w s framed a a_placed b b_placed one two fits also some v_fits w_fits
+    in
+    then-written Spared SparedByDivision site frame (dividing_items how q r) p Eax v s done.0 done.1.goes has-ebp
+    (λ k h g. (h.1, g)) room to done.1.quotient
 
 pub remainder-puts : RemainderPuts
-remainder-puts site frame p q r x y v w s framed room to a a_placed b b_placed one two fits also some v_fits w_fits =
-    let done = is-divided site frame q r x y v w s framed a a_placed b b_placed one two fits also some v_fits w_fits in
-    then-written Spared SparedByDivision site frame (before_division q r ++ plain (insn.IDiv (divisor_of r)) ∷ []) p Edx
-    w s done.0 done.1.goes has-ebp (λ k h g. (h.1, g)) room to done.1.remainder
+remainder-puts how site frame p q r x y v w s framed room to a a_placed b b_placed one two fits also some v_fits
+    w_fits =
+    let done = is-divided how site frame q r x y v w s framed a a_placed b b_placed one two fits also some v_fits w_fits
+    in
+    then-written Spared SparedByDivision site frame (dividing_items how q r) p Edx w s done.0 done.1.goes has-ebp
+    (λ k h g. (h.1, g)) room to done.1.remainder

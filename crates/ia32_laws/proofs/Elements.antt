@@ -64,6 +64,7 @@ use Rattle.ia32_laws.specs.AccessesOps.{PutFollows}
 use Rattle.ia32_laws.proofs.AccessesAddresses.{HasObject, has-object, named-row, object-named, object-within}
 use Rattle.ia32_laws.proofs.Loading.{given-any, given-width, static-elements}
 use Rattle.ia32_laws.proofs.Storing.{edi-works, element-stores}
+pub use Rattle.ia32_laws.proofs.Choosing.{all-memory}
 
 -- ---- registers
 
@@ -78,11 +79,6 @@ pub edi-outside : (frame : ℕ) (q : Place) → IsPlaceIn frame q → PlaceHasCe
 edi-outside frame (InWord r) placed = let b = general-below r placed in λ m below. inl (omega (arith, b, below))
 edi-outside frame (InByte r) placed = let b = byte-below r in inl (omega (arith, b))
 edi-outside frame (InSlot k) placed = tt
-
-pub all-memory : (base : ℕ) (q : Place) → PlaceHasMemory Anywhere base q
-all-memory base (InWord r) = tt
-all-memory base (InByte r) = tt
-all-memory base (InSlot k) = (tt, tt)
 
 -- nor do ESP and EBP
 pub esp-outside : HasCells OutsideScratch Esp

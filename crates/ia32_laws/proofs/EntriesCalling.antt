@@ -35,7 +35,7 @@ use Rattle.ia32_rows.specs.Rows.{deepen, pass_all}
 use Rattle.ia32_laws.specs.KeepsLaws.{data_end}
 use Rattle.ia32_laws.specs.Supports.{IsSupported, site_of}
 use Rattle.ia32_laws.proofs.KeepsApart.{element-ends, frame-array, frame-room, object-read}
-use Rattle.ia32_laws.proofs.Memory.{shapes-are, text-is}
+use Rattle.ia32_laws.proofs.Memory.{shapes-are, small-is, text-is}
 use Rattle.ia32_laws.proofs.Objects.{depth-in}
 use Rattle.ia32_laws.proofs.Ops.{op-is}
 use Rattle.ia32_laws.proofs.Shown.{elements-kept, point-supported, waits-supported}
@@ -51,6 +51,7 @@ use Rattle.ia32_laws.proofs.Marked.{has-depth, point-behind}
 use Rattle.ia32_laws.proofs.Passed.{AreWords, arguments-held}
 use Rattle.ia32_laws.proofs.Spared.{spared-kept}
 use Rattle.ia32_laws.proofs.Younger.{all-younger, old-deeper, word-younger}
+use Rattle.ia32_laws.proofs.Fresh.{mapped}
 
 -- ---- room
 
@@ -209,12 +210,6 @@ begun-arguments code input g s u f arguments values words frame point shown kept
     above : (esp size at k : ℕ) → esp + size ≤ at → esp ≤ at + 8 + 4 * k
     above esp size at k h = omega arith
 
--- an element of a list of one value is that
-mapped : {X Y : Type 0} → (xs : List X) (y z : Y) (v : ℕ) → slice_get (map (λ x. y) xs) v ≡ Some z → y ≡ z
-mapped [] y z v e = absurd (none-some z e)
-mapped (x ∷ xs) y z zero e = same_Some y z e
-mapped (x ∷ xs) y z (suc v) e = mapped xs y z v e
-
 -- arrays that calls hold
 begun-old : (code : Code) (input : List ℕ) (g : graph.State) (s : machine.State) (f : ℕ) (arguments : List ℕ)
     (values : List Value) (words : List ℕ) (point : ℕ) → (shown : Shows code input g s)
@@ -307,6 +302,7 @@ begun-called code input g s u site back d f arguments values words point h state
       placed = first-in point (points_of (flow_at code.program f) 0) first;
       shapes = shapes-are code.text (objects_of code.program) u.memory sound.bytes memory.0 memory.1;
       text = text-is code.text u.memory (data_start code.text) sound.bytes memory.0;
+      small = small-is code.text (data_start code.text) sound.bytes u.memory memory.0 sound.small;
       room = subst (λ (x : ℕ). stack_end code.text (objects_of code.program) ≤ x + stack_bytes code (active_of g))
           (sym whole) shown.room;
       few = few;
@@ -388,7 +384,7 @@ words-met flow None f words met = met
 words-met flow (Some d) f words met = met.1
 
 -- what is made of a value, where there is one
-given-some : {A : Type 0} (P : Moved → Type 0) (o : Option A) (go : A → Moved) → P Stuck
+pub given-some : {A : Type 0} (P : Moved → Type 0) (o : Option A) (go : A → Moved) → P Stuck
     → ((a : A) → o ≡ Some a → P (go a)) → P (given o go)
 given-some P None go none some = none
 given-some P (Some a) go none some = some a refl

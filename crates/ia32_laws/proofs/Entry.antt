@@ -20,7 +20,7 @@ use Rattle.ia32_laws.specs.KeepsLaws.{data_end}
 use Rattle.ia32_laws.specs.Supports.{IsSupported, site_of}
 use Rattle.ia32_laws.proofs.KeepsApart.{element-ends, frame-array, object-read}
 use Rattle.ia32_laws.proofs.Chain.{WaitsSupported}
-use Rattle.ia32_laws.proofs.Memory.{address-at, shapes-are, text-is}
+use Rattle.ia32_laws.proofs.Memory.{address-at, shapes-are, small-is, text-is}
 use Rattle.ia32_laws.proofs.Objects.{depth-in}
 use Rattle.ia32_laws.proofs.Shown.{elements-kept, waits-supported}
 use Rattle.ia32_laws.proofs.Zones.{frame_size}
@@ -184,6 +184,7 @@ entered-shows code input g s u h state c b =
       placed = c.placed;
       shapes = shapes-are code.text (objects_of code.program) u.memory sound.bytes sound.memory sound.size;
       text = text-is code.text u.memory (data_start code.text) sound.bytes sound.memory;
+      small = small-is code.text (data_start code.text) sound.bytes u.memory sound.memory sound.small;
       eip = b.eip ∙ sym (address-at code.places f g.point);
       esp = b.esp ∙ sym b.ebp;
       room = stacked (stack_end code.text (objects_of code.program)) c.frame (4 * length g.current.arguments)

@@ -12,15 +12,16 @@ use Rattle.ia32_rows.specs.Placements.{Code, placement_of}
 use Rattle.ia32_rows.specs.Shows.{Shows}
 use Rattle.ia32_rows.specs.Rows.{row}
 use Rattle.ia32_laws.specs.KeepsOps.{RowAt}
-use Rattle.ia32_laws.proofs.Changes.{complement-follows, extension-follows, negation-follows}
+use Rattle.ia32_laws.proofs.Changes.{complement-follows, extension-follows, negation-follows, zero-extension-follows}
 use Rattle.ia32_laws.proofs.Copies.{copy-follows}
 use Rattle.ia32_laws.proofs.Marks.{mark-follows, turn-follows}
 use Rattle.ia32_laws.proofs.Ops.{and-follows, difference-follows, number-follows, op-is, or-follows}
 use Rattle.ia32_laws.proofs.Ops.{product-follows, sum-follows, xor-follows}
 use Rattle.ia32_laws.proofs.Changing.{half-follows, low-follows}
 use Rattle.ia32_laws.proofs.Choosing.{jump-follows}
-use Rattle.ia32_laws.proofs.Counting.{left-shift-follows, right-shift-follows}
-use Rattle.ia32_laws.proofs.Stopping.{quotient-follows, remainder-follows}
+use Rattle.ia32_laws.proofs.Counting.{left-shift-follows, right-shift-follows, unsigned-right-shift-follows}
+use Rattle.ia32_laws.proofs.Stopping.{quotient-follows, remainder-follows, unsigned-quotient-follows}
+use Rattle.ia32_laws.proofs.Stopping.{unsigned-remainder-follows}
 use Rattle.ia32_laws.proofs.Params.{param-follows}
 use Rattle.ia32_laws.proofs.KeepsPassed.{exit-follows}
 use Rattle.ia32_laws.proofs.Putchar.{putchar-follows}
@@ -30,7 +31,8 @@ use Rattle.ia32_laws.proofs.Elements.{put-follows}
 use Rattle.ia32_laws.proofs.Loading.{get-follows}
 use Rattle.ia32_laws.proofs.Reaching.{load-follows, store-follows}
 use Rattle.ia32_laws.proofs.ClearsFollowing.{row-follows as clear-follows}
-use Rattle.ia32_laws.proofs.Comparing.{branch-follows, same-follows, set-follows}
+use Rattle.ia32_laws.proofs.Comparing.{branch-follows, order-branch-follows, order-set-follows, same-follows}
+use Rattle.ia32_laws.proofs.Comparing.{set-follows}
 use Rattle.ia32_laws.specs.StandingLaws.{IsFollowed, IsSelected, StepsFollow}
 use Rattle.ia32_laws.proofs.Points.{labels-stand, rows-stand}
 
@@ -49,6 +51,8 @@ follow code input g s (op.Copy d a) h state shown has known r =
     copy-follows d a code input g s h.supported state shown has r
 follow code input g s (op.Wide d a) h state shown has known r =
     extension-follows d a code input g s h.supported state shown has r
+follow code input g s (op.Zero d a) h state shown has known r =
+    zero-extension-follows d a code input g s h.supported state shown has r
 follow code input g s (op.Low d a) h state shown has known r =
     low-follows d a code input g s h.supported state shown has r
 follow code input g s (op.Low16 d a) h state shown has known r =
@@ -73,10 +77,16 @@ follow code input g s (op.Shl d a c) h state shown has known r =
     left-shift-follows d a c code input g s h.supported state shown has r
 follow code input g s (op.Sar d a c) h state shown has known r =
     right-shift-follows d a c code input g s h.supported state shown has r
+follow code input g s (op.Shr d a c) h state shown has known r =
+    unsigned-right-shift-follows d a c code input g s h.supported state shown has r
 follow code input g s (op.Div d a b) h state shown has known r =
     quotient-follows d a b code input g s h.supported state shown has r
 follow code input g s (op.Rem d a b) h state shown has known r =
     remainder-follows d a b code input g s h.supported state shown has r
+follow code input g s (op.Udiv d a b) h state shown has known r =
+    unsigned-quotient-follows d a b code input g s h.supported state shown has r
+follow code input g s (op.Urem d a b) h state shown has known r =
+    unsigned-remainder-follows d a b code input g s h.supported state shown has r
 follow code input g s (op.Frame d k) h state shown has known r =
     frame-follows d k code input g s h.supported state shown has r
 follow code input g s (op.Static d k) h state shown has known r =
@@ -104,6 +114,8 @@ follow code input g s (op.Clear k) h state shown has known r =
     clear-follows k code input g s h.supported state shown has r
 follow code input g s (op.Set how d a b) h state shown has known r =
     set-follows how d a b code input g s h.supported state shown has r
+follow code input g s (op.Setu how d a b) h state shown has known r =
+    order-set-follows how d a b code input g s h.supported state shown has r
 follow code input g s (op.Same a b) h state shown has known r =
     same-follows a b code input g s h.supported state shown has r
 follow code input g s (op.Jump block) h state shown has known r =
@@ -113,6 +125,10 @@ follow code input g s (op.Jump block) h state shown has known r =
 follow code input g s (op.Branch how a b first second) h state shown has known r =
     let is = op-is code g (op.Branch how a b first second) h.supported state has in
     branch-follows how a b first second code input g s r.rest h.supported state shown has
+    (labels-stand code g first h state is.fits.1.1.0) (labels-stand code g second h state is.fits.1.1.1.0) r.ready
+follow code input g s (op.Branchu how a b first second) h state shown has known r =
+    let is = op-is code g (op.Branchu how a b first second) h.supported state has in
+    order-branch-follows how a b first second code input g s r.rest h.supported state shown has
     (labels-stand code g first h state is.fits.1.1.0) (labels-stand code g second h state is.fits.1.1.1.0) r.ready
 follow code input g s o h state shown has known r = absurd known
 

@@ -27,21 +27,15 @@ use Rattle.ia32_laws.proofs.Zones.{frame_size}
 use Rattle.ia32_laws.specs.Called.{Called}
 use Rattle.ia32_laws.proofs.Begun.{Begun}
 use Rattle.ia32_laws.proofs.Headers.{HeadersApart}
+use Rattle.ia32_laws.proofs.Data.{map-of}
 
 -- ---- lists
 
 -- an element of a list of one value is that
-mapped : {X Y : Type 0} → (xs : List X) (y z : Y) (v : ℕ) → slice_get (map (λ x. y) xs) v ≡ Some z → y ≡ z
+pub mapped : {X Y : Type 0} → (xs : List X) (y z : Y) (v : ℕ) → slice_get (map (λ x. y) xs) v ≡ Some z → y ≡ z
 mapped [] y z v e = absurd (none-some z e)
 mapped (x ∷ xs) y z zero e = same_Some y z e
 mapped (x ∷ xs) y z (suc v) e = mapped xs y z v e
-
--- an element of a mapped list comes from one at the same place
-map-of : {X Y : Type 0} → (f : X → Y) (xs : List X) (k : ℕ) (y : Y) → slice_get (map f xs) k ≡ Some y
-    → (x : X) × (slice_get xs k ≡ Some x) × (f x ≡ y)
-map-of f [] k y e = absurd (none-some y e)
-map-of f (x ∷ xs) zero y e = (x, refl, same_Some (f x) y e)
-map-of f (x ∷ xs) (suc k) y e = map-of f xs k y e
 
 -- ---- variables
 

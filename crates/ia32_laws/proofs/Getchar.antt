@@ -25,6 +25,7 @@ use Rattle.ia32_rows.proofs.Steps.{comes-then, plain-goes}
 use Rattle.ia32_rows.proofs.Frames.{with_result}
 use Rattle.ia32_rows.proofs.Pushes.{Popped, Pushed, one_fits, pop-goes, push-goes, push-makes, pushed-at, ret-goes}
 use Rattle.ia32_laws.proofs.ByteStores.{byte-stores}
+use Rattle.ia32_rows.proofs.Putchar.{four-lower as lower-one}
 
 -- ---- the byte
 
@@ -109,6 +110,7 @@ takes-one site items a y rest s sound ready eax ebx ecx edx held low high some s
       size = h.sound.size;
       above = h.sound.above;
       below = h.sound.below;
+      small = h.sound.small;
       registers = h.sound.registers;
     } in
     let t : State = with_word Eax 1 m in
@@ -263,10 +265,6 @@ sets-all site b sound ready =
     let w = set-goes site setting_three (insn.MovImm (rm.Reg Eax) (pos 3)) Eax 3 b.flags b sound ready tt three-fits
     (λ after. refl) (λ after. refl) in
     sets-ebx site b w.0 w.1 w.3 w.2
-
--- two words below an address
-lower-one : (a e : ℕ) → a + 4 ≡ e → a ≡ e - 4
-lower-one a e h = omega arith
 
 lower-two : (a b e : ℕ) → a + 4 ≡ e → b + 4 ≡ a → b ≡ e - 8
 lower-two a b e p q = omega arith

@@ -29,6 +29,7 @@ use Rattle.ia32_rows.proofs.Straight.{leads-join}
 pub use Rattle.ia32_rows.proofs.Sums.{target-within, target-works}
 use Rattle.ia32_rows.specs.Rows.{low_byte}
 use Rattle.ia32_laws.specs.CoresLaws.{PutsBeside}
+use Rattle.ia32_laws.proofs.Spared.{first-byte}
 
 -- ---- pieces
 
@@ -114,15 +115,6 @@ puts-plain site frame items p w s u h =
     }
 
 -- ---- bytes
-
--- the first byte of a word in cells
-first-byte : (p : ℕ) (bs : List ℕ) → get_or bs p 0 < 256 → get_or bs p 0 ≡ little_from 0 4 (drop p bs) % 256
-first-byte p bs small =
-    counted (get_or (drop p bs) 0 0) (little_from 1 3 (drop p bs)) (get_or bs p 0)
-    (get_or-drop p bs 0 0 ∙ ap (λ (m : ℕ). get_or bs m 0) (let e : p + 0 ≡ p = omega arith in e)) small
-  where
-    counted : (x k w : ℕ) → x ≡ w → w < 256 → w ≡ (x + 256 * k) % 256
-    counted x k w e small = omega arith
 
 -- the lowest byte of a register is the lowest of its word
 pub low-byte-is : (r : Reg32) (s : State) → AreRegisters s.registers → IsGeneral r

@@ -1,32 +1,35 @@
 -- Rows of the low byte and the low 16 bits of a word.
-use Rattle.std.proofs.Common.{◌≡◌, ℕ, ◌%◌, ◌^◌, ◌<◌, [], ◌∷◌, refl, ap, ◌∙◌, arith}
-use Rattle.std.specs.Prelude.{⊤}
+use Rattle.std.proofs.Common.{◌≡◌, ◌≢◌, ℕ, ◌-◌, ◌%◌, ◌^◌, ◌<◌, ◌≤◌, [], ◌∷◌, Ok, refl, ap, ◌∙◌, arith}
+use Rattle.std.specs.Prelude.{⊤, Result}
 use Rattle.std.proofs.lemmas.Int.{ints}
+use Rattle.std.proofs.lemmas.List.{get_or-set_same}
+use Rattle.pcc_base.specs.Outcome.{End}
 use Rattle.pcc_base.specs.declared.run.Width.TheVariants.{Two}
 use Rattle.ia32_insn.specs.declared.register_names.Reg32.{Reg32}
-use Rattle.ia32_insn.specs.declared.register_names.Reg32.TheVariants.{Ebp, Esi}
+use Rattle.ia32_insn.specs.declared.register_names.Reg32.TheVariants.{Ebp}
 use Rattle.ia32_insn.specs.Places.{Place, InWord, InByte, InSlot}
 use Rattle.ia32_insn.specs.declared.operand.Rm32.TheVariants as rm
 use Rattle.ia32_insn.specs.declared.insn.Insn.TheVariants as insn
-use Rattle.ia32_insn.specs.State.{State}
+use Rattle.ia32_insn.specs.Registers.{byte_place}
+use Rattle.ia32_insn.specs.State.{State, at_address}
 use Rattle.ia32_insn.specs.Arithmetic.{extended16}
-use Rattle.ia32_insn.specs.Meaning.{word_of}
+use Rattle.ia32_insn.specs.Meaning.{address_of, and_then, load, with_byte, with_word, word_of}
 use Rattle.ia32_insn.specs.Items.{plain}
-use Rattle.ia32_rows.specs.Sites.{Framed, Site, SoundAt}
+use Rattle.ia32_rows.specs.Placements.{below}
+use Rattle.ia32_rows.specs.Sites.{Anywhere, Framed, Site, SoundAt}
 use Rattle.ia32_rows.proofs.Frames.{with_result}
-use Rattle.ia32_rows.proofs.Sound.{word-same}
-use Rattle.ia32_rows.specs.Rows.{read}
-use Rattle.ia32_rows.specs.Effects.{Makes, OutsideWord}
-use Rattle.ia32_rows.specs.Contains.{Contains, HoldsWord, IsPlaceIn}
+use Rattle.ia32_rows.proofs.Sound.{load-same, word-same}
+use Rattle.ia32_rows.specs.Effects.{Keeps, Makes, OutsideWord}
+use Rattle.ia32_rows.specs.Contains.{ApartFromPlace, Contains, HoldsWord, IsPlaceIn, Untouched}
 use Rattle.ia32_rows.specs.Laws.{IsWorking}
 use Rattle.ia32_rows.specs.Rows.{target_of}
-use Rattle.ia32_rows.proofs.Kept.{other-cells}
-use Rattle.ia32_rows.proofs.Instructions.{result-makes}
-use Rattle.ia32_rows.proofs.Moves.{copy-puts, copy_byte-puts, read-gives}
-use Rattle.ia32_rows.proofs.Sums.{esi-works}
-use Rattle.ia32_rows.specs.Rows.{extend_half, halving, low_byte, lowering}
+use Rattle.ia32_rows.proofs.Kept.{byte-keeps, framed-kept, keeps-stricter, other-cells}
+use Rattle.ia32_rows.proofs.Instructions.{below-loaded, load_byte-makes, result-makes}
+use Rattle.ia32_rows.proofs.Lowest.{lowest-bytes}
+use Rattle.ia32_rows.proofs.Moves.{byte-below, copy-puts, copy_byte-puts}
+use Rattle.ia32_rows.specs.Rows.{extend_half, halving, low_byte}
 use Rattle.ia32_laws.specs.CoresLaws.{HalfPuts, LowPuts}
-use Rattle.ia32_laws.proofs.Goes.{Goes, goes-of, goes-then, low-byte-is, puts-plain, result-goes, target-within}
+use Rattle.ia32_laws.proofs.Goes.{Goes, low-byte-is, puts-plain, result-goes, target-within}
 use Rattle.ia32_laws.proofs.Goes.{target-works, then-written}
 
 -- ---- a byte
@@ -53,11 +56,24 @@ low-puts site frame (InByte r) (InWord q) x s framed room to holds placed contai
       },
     )
 low-puts site frame (InByte r) (InSlot k) x s framed room to holds placed contains fits =
-    let first = read-gives site frame Esi (InSlot k) x s framed esi-works holds placed contains fits in
-    let last = then-written (OutsideWord Esi) (λ c. ⊤) site frame (read Esi (InSlot k)) (InByte r) Esi x s first.0
-    (goes-of site frame (read Esi (InSlot k)) Esi x s first.0 first.1) (other-cells Ebp Esi (λ e. omega arith))
-    (λ c h g. h.1) room to first.1.value in
-    (last.0, puts-plain site frame (lowering (InByte r) (InSlot k)) (InByte r) x s last.0 last.1)
+    let low = placed.low in
+    let byte = (lowest-bytes site frame k x s framed (omega arith) placed.high contains).0 in
+    let u : State = with_byte r (x % 256) s in
+    let small : x % 256 < 256 = omega arith in
+    let makes = load_byte-makes site frame r k (x % 256) s framed (omega arith) placed.high byte small in
+    let cells = framed.sound.registers.cells in
+    let below = byte-below r in
+    let keeps : Keeps (λ k. k ≢ byte_place r) Anywhere s u = byte-keeps r (x % 256) s in (
+      u,
+      record {
+        leads = (u, makes, refl);
+        holds = get_or-set_same s.registers (byte_place r) (x % 256) 0 (omega (arith, cells, below));
+        framed = framed-kept (λ k. k ≢ byte_place r) Anywhere site frame s u framed keeps makes.sound
+            (λ j small e. omega (arith, below, e, small)) (λ j small e. omega (arith, below, e, small));
+        keeps = keeps-stricter (λ k. k ≢ byte_place r) (Untouched (InByte r)) Anywhere
+            (ApartFromPlace (word_of Ebp s) (InByte r)) s u (λ k h. h.0) (λ j n l. tt) keeps;
+      },
+    )
 
 -- ---- 16 bits
 
@@ -87,6 +103,20 @@ half-of site frame t r x s framed works is =
           ∙ ap (λ (k : ℕ). extended16 (k % 2 ^ 16)) is,
     )
 
+-- of a slot
+half_slot-makes : (site : Site) (frame : ℕ) (t : Reg32) (k h : ℕ) (s : State) → Framed site frame s → 0 < k
+    → k ≤ frame → load 2 (word_of Ebp s - k) s ≡ Ok h
+    → Makes site (insn.MovSx16 t (rm.Mem (below k))) s (with_result t (extended16 h) s.flags s)
+half_slot-makes site frame t k h s framed some within held =
+    let loaded = below-loaded site frame k 2 h s framed some within held in
+    record {
+      straight = tt;
+      does = λ address. ap (λ (x : Result ℕ End). and_then x
+          (λ value. let q : Result State End = Ok (with_word t (extended16 value) (at_address address s)) in q))
+          (load-same 2 (address_of (below k) s) h s (at_address address s) refl loaded);
+      sound = result-makes site t (extended16 h) s.flags s framed.sound;
+    }
+
 half-goes : (site : Site) (frame : ℕ) (t : Reg32) (q : Place) (x : ℕ) (s : State) → Framed site frame s → IsWorking t
     → HoldsWord q → IsPlaceIn frame q → Contains s Two q x → x < 2 ^ 32
     → (u : State) × Goes (OutsideWord t) site frame (extend_half t q) s u × (word_of t u ≡ extended16 (x % 2 ^ 16))
@@ -94,13 +124,13 @@ half-goes site frame t (InWord r) x s framed works holds placed contains fits =
     half-of site frame t r x s framed works contains
 half-goes site frame t (InByte r) x s framed works holds placed contains fits = absurd holds
 half-goes site frame t (InSlot k) x s framed works holds placed contains fits =
-    let first = read-gives site frame t (InSlot k) x s framed works holds placed contains fits in
-    let m : State = first.0 in
-    let second = half-of site frame t t x m first.1.framed works first.1.value in (
-      second.0,
-      goes-then (OutsideWord t) site frame (read t (InSlot k)) (plain (insn.MovSx16 t (rm.Reg t)) ∷ []) s m second.0
-          (goes-of site frame (read t (InSlot k)) t x s m first.1) second.1,
-      second.2,
+    let low = placed.low in
+    let half = (lowest-bytes site frame k x s framed (omega arith) placed.high contains).1 in
+    let v : ℕ = extended16 (x % 2 ^ 16) in (
+      with_result t v s.flags s,
+      result-goes site frame (insn.MovSx16 t (rm.Mem (below k))) t v s.flags s framed works
+          (half_slot-makes site frame t k (x % 2 ^ 16) s framed (omega arith) placed.high half),
+      word-same site.text site.low site.high t v s framed.sound (extended-small (x % 2 ^ 16) (omega arith)),
     )
 
 pub half-puts : HalfPuts

@@ -68,7 +68,6 @@ pub mod Branches
 pub mod Conditions
 pub mod Dividing
 pub mod Changing
-pub mod Setting
 pub mod Beside
 pub mod Counting
 pub mod Quotients

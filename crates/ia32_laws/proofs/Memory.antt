@@ -1,13 +1,20 @@
 -- Memory by the shapes of its areas and by its bytes, for any static objects.
-use Rattle.std.proofs.Common.{◌≡◌, ℕ, ◌+◌, ◌-◌, ◌≤◌, Bool, true, false, List, [], ◌∷◌, ◌++◌, length, Some}
-use Rattle.std.proofs.Common.{refl, ap, ◌∙◌, arith, length-append}
-use Rattle.std.specs.Prelude.{map, option_map, slice_get, slice_index_or}
+use Rattle.std.proofs.Common.{◌≡◌, ℕ, ◌+◌, ◌-◌, ◌*◌, ◌<◌, ◌≤◌, ℤ, Bool, true, false, List, [], ◌∷◌, ◌++◌, length, Some}
+use Rattle.std.proofs.Common.{refl, sym, ap, subst, ◌∙◌, arith, length-append}
+use Rattle.std.specs.Prelude.{flat_map, map, option_map, slice_get, slice_index_or}
+use Rattle.std.specs.Int.{w32, cast_unsigned}
+use Rattle.std.specs.List.{AllByRecursion}
+use Rattle.std.proofs.lemmas.Bool.{false≢true}
+use Rattle.std.proofs.lemmas.List.Elements.{All-append, All-nil, All-replicate}
+use Rattle.byteorder.specs.Endian.{little_bytes}
 use Rattle.std.proofs.lemmas.Option.{none-some, same_Some}
-use Rattle.pcc_base.specs.Bytes.{zeros}
+use Rattle.pcc_base.specs.Bytes.{AreBytes, zeros}
 use Rattle.pcc_base.proofs.Zeros.{length-zeros}
 use Rattle.ia32_insn.specs.State.{Area, Shape, shape_of}
 use Rattle.ia32_insn.specs.Items.{Object, Places, round_up, text_area, data_area, data_bytes, data_memory, data_start}
-use Rattle.ia32_insn.specs.Items.{stack_end, text_start}
+use Rattle.ia32_insn.specs.Items.{element_bytes, elements_size, object_bytes, stack_end, text_start}
+use Rattle.ia32_rows.proofs.Small.{bytes-small}
+use Rattle.ia32_rows.specs.Shows.{HasBytes}
 use Rattle.ia32_rows.specs.Sites.{data_from}
 use Rattle.ia32_rows.specs.Placements.{address_in}
 use Rattle.ia32_laws.specs.Supports.{no_places}
@@ -103,3 +110,47 @@ pub address-at : (places : List Places) (f point : ℕ)
 address-at [] f point = refl
 address-at (p ∷ places) ℕ.zero point = refl
 address-at (p ∷ places) (ℕ.suc f) point = address-at places f point
+
+-- ---- bytes
+
+-- where the data are bytes, so is what may be written
+pub small-is : (text : List ℕ) (low : ℕ) (bytes : List ℕ) (areas : List Area)
+    → areas ≡ text_area text ∷ data_from low bytes ∷ [] → AreBytes bytes → AllByRecursion HasBytes areas
+small-is text low bytes areas e small =
+    subst (AllByRecursion HasBytes) (sym e) ((λ no. absurd (false≢true no)), ((λ yes. small), tt))
+
+-- and the other way round
+pub data-small : (text : List ℕ) (low : ℕ) (bytes : List ℕ) (areas : List Area)
+    → areas ≡ text_area text ∷ data_from low bytes ∷ [] → AllByRecursion HasBytes areas → AreBytes bytes
+data-small text low bytes areas e small = (subst (AllByRecursion HasBytes) e small).1.0 refl
+
+-- the bytes of numbers in so many bytes each
+elements-small : (width : ℕ) (zs : List ℤ)
+    → AreBytes (flat_map (λ (z : ℤ). little_bytes width (cast_unsigned w32 z)) zs)
+elements-small width [] = All-nil (λ byte. byte < 256)
+elements-small width (z ∷ zs) =
+    All-append (λ byte. byte < 256) (little_bytes width (cast_unsigned w32 z))
+    (flat_map (λ (y : ℤ). little_bytes width (cast_unsigned w32 y)) zs) (bytes-small 0 width (cast_unsigned w32 z))
+    (elements-small width zs)
+
+zeros-small : (n : ℕ) → AreBytes (zeros n)
+unfolding zeros
+zeros-small n = All-replicate (λ byte. byte < 256) n 0 (omega arith)
+
+-- and of objects
+objects-small : (objects : List Object) → AreBytes (flat_map object_bytes objects)
+objects-small [] = All-nil (λ byte. byte < 256)
+objects-small (object ∷ objects) =
+    All-append (λ byte. byte < 256) (object_bytes object) (flat_map object_bytes objects)
+    (All-append (λ byte. byte < 256) (little_bytes 4 (length object.elements) ++ element_bytes object)
+    (zeros (elements_size object - object.width * length object.elements))
+    (All-append (λ byte. byte < 256) (little_bytes 4 (length object.elements)) (element_bytes object)
+    (bytes-small 0 4 (length object.elements)) (elements-small object.width object.elements))
+    (zeros-small (elements_size object - object.width * length object.elements))) (objects-small objects)
+
+-- the data of an image
+pub whole-small : (objects : List Object) (n : ℕ) → AreBytes (data_bytes objects ++ zeros n)
+whole-small objects n =
+    All-append (λ byte. byte < 256) (data_bytes objects) (zeros n)
+    (All-append (λ byte. byte < 256) (zeros 4) (flat_map object_bytes objects) (zeros-small 4) (objects-small objects))
+    (zeros-small n)

@@ -1,15 +1,18 @@
--- What CMP, SHL and MOVSX make of words.
-use Rattle.std.proofs.Common.{◌≡◌, ℕ, suc, ◌-◌, ◌*◌, ◌%◌, ◌^◌, ◌<◌, ℤ, pos, negsuc, ◌*ℤ◌, refl, sym, ap, ◌∙◌, arith}
+-- What CMP, SHL, SAR, SHR, MOVSX and MOVZX make of words.
+use Rattle.std.proofs.Common.{◌≡◌, ℕ, suc, ◌-◌, ◌*◌, ◌/◌, ◌%◌, ◌^◌, ◌<◌, ◌==◌, ℤ, pos, negsuc, ◌*ℤ◌, refl, sym, ap, ◌∙◌, arith}
 use Rattle.std.specs.Prelude.{FitsSigned}
 use Rattle.std.specs.Int.{w8, w16, w32, cast_signed, cast_unsigned, int_shr, int_wrap}
-use Rattle.std.proofs.Math.Nat.{mod-eq_of_lt, mod-lt}
+use Rattle.std.proofs.Math.Nat.{div-le_self, mod-eq_of_lt, mod-lt}
 use Rattle.std.proofs.lemmas.Nat.{pow_below}
 use Rattle.std.proofs.lemmas.Int.{ints, to_z-of_z, of_z-to_z, int_wrap-mul_right, wrapping_mul-bits}
 use Rattle.flow_graph.specs.Meaning.{shift_count, shifted_right}
 use Rattle.std.proofs.Common.{Some}
 use Rattle.std.proofs.lemmas.Bool.Decides.{nat_tests}
 use Rattle.flow_graph.specs.declared.op.Comparison.TheVariants.{Eq, Ne, Lt, Le, Gt, Ge}
-use Rattle.ia32_laws.specs.Words.{ComparisonDecides, LeftShiftIs, LowHalfIs, RightShiftIs}
+use Rattle.flow_graph.specs.declared.op.Order.TheVariants as order
+use Rattle.ia32_insn.specs.Arithmetic.{difference}
+use Rattle.ia32_laws.specs.Words.{ComparisonDecides, LeftShiftIs, LowHalfIs, OrderDecides, RightShiftIs}
+use Rattle.ia32_laws.specs.Words.{UnsignedShiftIs, ZeroExtensionIs}
 
 -- ---- 16 bits
 
@@ -64,7 +67,31 @@ right-shift-is x n f g =
     ∙ ap (cast_unsigned w32) (sym (same-right x (cast_unsigned w8 n % 32)))
     ∙ ap (λ (z : ℤ). cast_unsigned w32 (int_shr z (cast_unsigned w8 n % 32))) (sym (to_z-of_z w32 x f))
 
+-- with zero bits
+pub unsigned-shift-is : UnsignedShiftIs
+unsigned-shift-is x n f g =
+    let m : ℕ = cast_unsigned w32 x in
+    let small : m < 2 ^ 32 = omega (arith, ints) in
+    let less = div-le_self m (2 ^ shift_count n) in
+    of_z-to_z w32 (m / 2 ^ shift_count n) (omega (arith, small, less)) ∙ ap (λ (k : ℕ). m / 2 ^ k) (same-count n g)
+
+-- ---- bytes
+
+pub zero-extension-is : ZeroExtensionIs
+zero-extension-is (pos a) h = let small = h.sfits in (let e : a % 256 ≡ a = omega (arith, small) in e)
+zero-extension-is (negsuc a) h = let small = h.sfits in omega (arith, small)
+
 -- ---- comparisons
+
+-- CMP leaves the carry where the first word is less, and a difference of 0 where they are the same
+no-difference : (m n : ℕ) → m < 2 ^ 32 → n < 2 ^ 32 → (difference m n == 0) ≡ (m == n)
+no-difference m n h k = grind (arith, nat_tests, h, k)
+
+pub order-decides : OrderDecides
+order-decides order.Lt x y f g = refl
+order-decides order.Le x y f g = ap Some (grind (arith, ints, nat_tests))
+order-decides order.Gt x y f g = ap Some (grind (arith, ints, nat_tests))
+order-decides order.Ge x y f g = ap Some (grind (arith, ints, nat_tests))
 
 pub comparison-decides : ComparisonDecides
 comparison-decides Eq m n h k = ap Some (grind (arith, ints, nat_tests))

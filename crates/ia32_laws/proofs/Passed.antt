@@ -27,6 +27,7 @@ use Rattle.ia32_laws.specs.Supports.{HoldsWidth, IsSupported}
 use Rattle.ia32_laws.proofs.Small.{word-small}
 use Rattle.ia32_laws.proofs.Shown.{point-supported}
 use Rattle.ia32_laws.specs.ActivationsLaws.{AreHeld}
+use Rattle.ia32_laws.proofs.Compared.{word-in}
 
 -- the words in the places are those of the values, each of which a variable holds
 pub record AreWords (code : Code) (g : graph.State) (frames : List ℕ) (s : machine.State) (arguments : List ℕ)
@@ -38,15 +39,6 @@ pub record AreWords (code : Code) (g : graph.State) (frames : List ℕ) (s : mac
       → (w : ℕ) × (slice_get words k ≡ Some w) × IsWord code (active_of g) frames value w
   pub variables : (k : ℕ) (value : Value) → slice_get values k ≡ Some value
       → (v : ℕ) × (slice_get g.current.variables v ≡ Some value)
-
--- a value of width Two has a word in its place
-word-in : (code : Code) (active : List Activation) (frames : List ℕ) (s : machine.State) (value : Value)
-    (place : Place) → HoldsWidth (Some Two) place
-    → StandsIn code active frames s (word_of Ebp s) (Some Two) value place
-    → (w : ℕ) × HoldsWord place × Contains s Two place w × IsWord code active frames value w
-word-in code active frames s value (InWord r) holds h = (word_of r s, tt, refl, h)
-word-in code active frames s value (InByte r) holds h = absurd holds
-word-in code active frames s value (InSlot slot) holds h = (h.0, tt, h.1, h.2)
 
 -- what one more value is
 more-is : (o : Option Value) (p : Option (List Value)) (values : List Value) → one_more o p ≡ Some values

@@ -100,7 +100,7 @@ IsLow code active frames (Some Two) value w = IsWord code active frames value w
 IsLow code active frames (Some One) value w = IsByte value (w % 256)
 IsLow code active frames None value w = ⊥
 
-stands-low : (code : Code) (active : List Activation) (frames : List ℕ) (u : machine.State) (width : Option Width)
+pub stands-low : (code : Code) (active : List Activation) (frames : List ℕ) (u : machine.State) (width : Option Width)
     (value : Value) (place : Place) (w : ℕ) → HoldsWidth width place → IsLow code active frames width value w
     → HoldsLow u place w → StandsIn code active frames u (word_of Ebp u) width value place
 stands-low code active frames u (Some Two) value (InWord r) w for low holds =

@@ -51,7 +51,7 @@ use Rattle.ia32_laws.proofs.Objects.{depth-in}
 use Rattle.ia32_laws.proofs.Puts.{IsLow}
 use Rattle.ia32_laws.proofs.Elsewhere.{at-own-address, following-in, stands-at}
 use Rattle.ia32_laws.proofs.Shown.{after-set}
-use Rattle.ia32_laws.proofs.Zones.{frame_size, shown-in-frame}
+use Rattle.ia32_laws.proofs.Zones.{frame_size, shown-in-frame, returns-at as returns-of}
 use Rattle.ia32_laws.proofs.Beside.{cells-apart, memory-apart, same-from, stack-untouched, stands-low}
 use Rattle.ia32_laws.specs.ActivationsLaws.{HasDepth}
 use Rattle.ia32_laws.proofs.Calling.{resume-goes}
@@ -62,14 +62,9 @@ use Rattle.ia32_laws.proofs.Chains.{stands-carried}
 use Rattle.ia32_laws.proofs.Clear.{place-clear}
 use Rattle.ia32_laws.proofs.Marked.{has-depth}
 use Rattle.ia32_laws.proofs.Spared.{spared-kept}
+use Rattle.ia32_laws.proofs.Answering.{same-then}
 
 -- ---- places
-
-same-then : (base : ℕ) (place : Place) (s m u : machine.State) → IsSame base place s m → IsSame base place m u
-    → IsSame base place s u
-same-then base (InWord r) s m u a b = b ∙ a
-same-then base (InByte r) s m u a b = b ∙ a
-same-then base (InSlot slot) s m u a b = λ n w long e. b n w long (a n w long e)
 
 same-elsewhere : (base address : ℕ) (place : Place) (s u : machine.State) → IsSame base place s u
     → IsSame base place s (at_address address u)
@@ -155,15 +150,6 @@ sizes code input g s w waiting base rest h =
 
 -- ---- behind the call
 
--- the return address of a call that waits is in memory
-returns-of : (code : Code) (active : List Activation) (frames : List ℕ) (s : machine.State) (younger : Activation)
-    (frame : ℕ) (waiting : List Waiting) (older : List ℕ)
-    → WaitFrom code active frames s younger frame waiting older → (r : ℕ) × (load 4 (frame + 4) s ≡ Ok r)
-returns-of code active frames s younger frame [] [] (main, none, r, returns, behind) = (r, returns)
-returns-of code active frames s younger frame [] (k ∷ older) h = absurd h
-returns-of code active frames s younger frame (w ∷ waiting) [] h = absurd h
-returns-of code active frames s younger frame (w ∷ waiting) (k ∷ older) h = ((h.0).return_address, (h.0).returns)
-
 pub frame-top : (code : Code) (input : List ℕ) (g : graph.State) (s : machine.State) (w : Waiting)
     (waiting : List Waiting) (base : ℕ) (rest : List ℕ) → (h : Waited code input g s w waiting base rest)
     → base + 8 ≤ (site_of code w.activation.function).high
@@ -210,6 +196,7 @@ at-caller code input g s u w waiting base rest x r items words h back brings man
       size = (back.sound).size;
       above = (back.sound).above;
       below = (back.sound).below;
+      small = (back.sound).small;
       registers = (back.sound).registers;
     }) (site-depth code w.activation.function h.supported) whole
     (enough site.low (word_of Esp s) (frame_size code g.current) (word_of Ebp s) (word_of Esp u) bounds.room bounds.esp

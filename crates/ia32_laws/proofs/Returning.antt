@@ -33,6 +33,7 @@ use Rattle.ia32_laws.proofs.Zones.{frame_size, shown-in-frame}
 use Rattle.ia32_laws.proofs.Leaving.{BringsEbx, leave-whole, return-whole}
 use Rattle.ia32_laws.specs.Returns.{ReturnFollows, StandsBehind}
 use Rattle.ia32_laws.proofs.Resuming.{IsResult, Waited, resume-follows}
+use Rattle.ia32_laws.proofs.EntriesCalling.{given-some}
 
 -- ---- addresses
 
@@ -126,12 +127,6 @@ finish code input g s n x (w ∷ ws) (k ∷ rest) h state shown same behind chai
     (resume-follows code input g s p.0 w ws k rest n x link.return_address all p.1 p.2 is at)
 
 -- ---- the law
-
--- what is made of a value, where there is one
-given-some : {A : Type 0} (P : Moved → Type 0) (o : Option A) (go : A → Moved) → P Stuck
-    → ((a : A) → o ≡ Some a → P (go a)) → P (given o go)
-given-some P None go none some = none
-given-some P (Some a) go none some = some a refl
 
 pub return-follows : ReturnFollows
 return-follows None code input g s h state shown has at behind =

@@ -24,7 +24,7 @@ use Rattle.ia32_rows.specs.Sites.{SoundAt}
 use Rattle.ia32_laws.specs.Supports.{IsSupported, SupportsPoint, site_of}
 use Rattle.ia32_laws.specs.Protected.{ChainReads, ElementReads, IsCallRead, IsProtected}
 use Rattle.ia32_laws.specs.KeepsLaws.{Arrives, MovedShows, SetShows, moved_to}
-use Rattle.ia32_laws.proofs.Memory.{shapes-are, text-is}
+use Rattle.ia32_laws.proofs.Memory.{shapes-are, small-is, text-is}
 use Rattle.ia32_laws.proofs.Chain.{AreAlike, HasArrays, IsAlike, IsWaitAlike, Loads, WaitsSupported, chain-kept}
 use Rattle.ia32_laws.proofs.Chain.{remade, same-place, stands-kept, wait_with, word-alike}
 
@@ -175,6 +175,7 @@ next-shown code input g s t block point left taken written variables arrays afte
       placed = arrives.placed;
       shapes = shapes-are code.text (objects_of code.program) t.memory sound.bytes sound.memory sound.size;
       text = text-is code.text t.memory (data_start code.text) sound.bytes sound.memory;
+      small = small-is code.text (data_start code.text) sound.bytes t.memory sound.memory sound.small;
       eip = refl;
       esp = ap (λ (k : ℕ). k + (placement_of code g.current.function).frame) esp ∙ shown.esp ∙ sym ebp;
       room = subst (λ (k : ℕ). stack_end code.text (objects_of code.program) ≤ k + stack_bytes code (active_of h))

@@ -14,7 +14,7 @@ use Rattle.ia32_laws.specs.Supports.{IsSparedByCall}
 use Rattle.ia32_laws.specs.Protected.{IsSame}
 
 -- the first two bytes of a word in cells
-first-byte : (p : ℕ) (bs : List ℕ) → get_or bs p 0 < 256 → get_or bs p 0 ≡ little_from 0 4 (drop p bs) % 256
+pub first-byte : (p : ℕ) (bs : List ℕ) → get_or bs p 0 < 256 → get_or bs p 0 ≡ little_from 0 4 (drop p bs) % 256
 first-byte p bs small =
     counted (get_or (drop p bs) 0 0) (little_from 1 3 (drop p bs)) (get_or bs p 0)
     (get_or-drop p bs 0 0 ∙ ap (λ (m : ℕ). get_or bs m 0) (let e : p + 0 ≡ p = omega arith in e)) small
@@ -22,7 +22,7 @@ first-byte p bs small =
     counted : (x k w : ℕ) → x ≡ w → w < 256 → w ≡ (x + 256 * k) % 256
     counted x k w e small = omega arith
 
-second-byte : (p : ℕ) (bs : List ℕ) → get_or bs p 0 < 256 → get_or bs (p + 1) 0 < 256
+pub second-byte : (p : ℕ) (bs : List ℕ) → get_or bs p 0 < 256 → get_or bs (p + 1) 0 < 256
     → get_or bs (p + 1) 0 ≡ little_from 0 4 (drop p bs) / 256 % 256
 second-byte p bs small also =
     counted (get_or (drop p bs) 0 0) (get_or (drop p bs) 1 0) (little_from 2 2 (drop p bs)) (get_or bs p 0)
@@ -36,11 +36,11 @@ second-byte p bs small also =
 low-byte-is : (s : machine.State) → AreRegisters s.registers → byte_of Bl s ≡ word_of Ebx s % 256
 low-byte-is s h = first-byte 12 s.registers (h.below 12)
 
-high-byte-is : (s : machine.State) → AreRegisters s.registers → byte_of Bh s ≡ word_of Ebx s / 256 % 256
+pub high-byte-is : (s : machine.State) → AreRegisters s.registers → byte_of Bh s ≡ word_of Ebx s / 256 % 256
 high-byte-is s h = second-byte 12 s.registers (h.below 12) (h.below 13)
 
 -- cells of a register are not outside it
-outside : (low k : ℕ) → (k < low) ⊎ (low + 4 ≤ k) → low ≤ k → k < low + 4 → ⊥
+pub outside : (low k : ℕ) → (k < low) ⊎ (low + 4 ≤ k) → low ≤ k → k < low + 4 → ⊥
 outside low k (inl h) a b = omega arith
 outside low k (inr h) a b = omega arith
 

@@ -30,6 +30,7 @@ use Rattle.flow_graph.specs.declared.op.Bits.{Bits}
 use Rattle.flow_graph.specs.declared.op.Bits.TheVariants.{Eight, Sixteen, ThirtyTwo}
 use Rattle.flow_graph.specs.Meaning.{bytes_of}
 use Rattle.ia32_rows.specs.Sites.{Anywhere, Framed, Site, SoundAt, data_from}
+use Rattle.ia32_rows.proofs.Small.{replaced-small}
 use Rattle.ia32_rows.proofs.Sound.{areas-apart, load-in, sound-with_word, word-below, word-other, word-same}
 use Rattle.ia32_rows.specs.Rows.{low_byte, read, store_to, storing, target_of}
 use Rattle.ia32_rows.specs.Effects.{IsStraight, Keeps, Leads, Makes, OutsideWord}
@@ -78,6 +79,7 @@ stores-in site n a value s h some from to fits =
       size = ap (λ (k : ℕ). site.low + k) long ∙ size;
       above = h.above;
       below = h.below;
+      small = replaced-small (a - site.low) n value (a - site.low + length new) h.bytes h.small;
       registers = h.registers;
     } in
     let old = load-in site.text site.low site.high n a s h from to in (
@@ -288,7 +290,7 @@ pub record IsRead (site : Site) (frame : ℕ) (q : Place) (x : ℕ) (s u : State
   pub goes : Goes (OutsideWord Esi) site frame (read (target_of q) q) s u
   pub value : word_of (target_of q) u ≡ x
 
-alone : (r : Reg32) → (number32 r == number32 r) ≡ true
+pub alone : (r : Reg32) → (number32 r == number32 r) ≡ true
 alone r = eq-eqb (number32 r) (number32 r) refl
 
 pub target-read : (site : Site) (frame : ℕ) (q : Place) (x : ℕ) (s : State) → Framed site frame s → HoldsWord q

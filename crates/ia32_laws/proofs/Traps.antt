@@ -18,29 +18,7 @@ use Rattle.ia32_rows.proofs.Sound.{sound-at}
 use Rattle.ia32_rows.proofs.Steps.{IsAt, at-front, at-back, after-fits, step-goes}
 use Rattle.ia32_laws.proofs.Stopping.{plain-halts}
 use Rattle.ia32_laws.specs.RoutinesLaws.{CheckPasses, CheckTraps}
-
--- items that stand where a jump leads are ready there
-landed : (site : Site) (items : List Item) (address goal : ℕ) (s : State) → StandsFrom site items address
-    → goal % 2 ^ 32 ≡ address → ReadyAt site items (at_address goal s)
-landed site items address goal s h at =
-    record {
-      bytes = h.bytes;
-      here = subst (λ (a : ℕ). IsAt site.text a h.bytes) (sym at) h.here;
-      stand = subst (λ (a : ℕ). ItemsAt site.symbols site.places a items h.bytes) (sym at) h.stand;
-    }
-
--- what a condition gives where it is known
-decides : (o : Option Bool) (b : Bool) (s : State) → o ≡ Some b
-    → (let known : Result Bool End = or_end o (Stopped UnknownFlags s.eip) in known) ≡ Ok b
-decides o b s e = ap (λ (x : Option Bool). let known : Result Bool End = or_end x (Stopped UnknownFlags s.eip) in known)
-    e
-
-branch-effect : (c : Cond) (b : Bool) (s : State) → holds c s.flags ≡ Some b
-    → (let done : Result State End = and_then (or_end (holds c s.flags) (Stopped UnknownFlags s.eip)) (λ known. Ok s) in
-    done) ≡ Ok s
-branch-effect c b s e =
-    ap (λ (x : Result Bool End). let done : Result State End = and_then x (λ known. Ok s) in done)
-    (decides (holds c s.flags) b s e)
+use Rattle.ia32_rows.proofs.Jumps.{branch-effect, decides, landed}
 
 pub check-traps : CheckTraps
 check-traps site c rest s sound stands ready e =

@@ -26,7 +26,7 @@ use Rattle.ia32_laws.specs.Supports.{IsPlaceFor, IsSupported, Supports}
 use Rattle.ia32_laws.specs.Protected.{ArgumentReads, ChainReads}
 use Rattle.ia32_laws.specs.Protected.{SlotReads}
 use Rattle.ia32_laws.specs.KeepsLaws.{InFrame, ShownInFrame, data_end}
-use Rattle.ia32_laws.proofs.Memory.{areas-are, text-above}
+use Rattle.ia32_laws.proofs.Memory.{areas-are, data-small, text-above}
 use Rattle.ia32_laws.proofs.Chain.{WaitsSupported}
 use Rattle.ia32_laws.proofs.Shown.{waits-supported}
 
@@ -47,7 +47,7 @@ words-most (p ∷ ops) (suc k) o e =
     below a b c h k = omega arith
 
 -- each call takes at most 0x4000 bytes, where its argument words count for the call that passes them
-stack-small : (code : Code) (a : Activation) (waiting : List Waiting) → IsSupported code
+pub stack-small : (code : Code) (a : Activation) (waiting : List Waiting) → IsSupported code
     → AreActivations code.program (a ∷ map (λ w. w.activation) waiting) → AreWaiting code.program a waiting
     → stack_bytes code (a ∷ map (λ w. w.activation) waiting) + 4 * most_words (flow_at code.program a.function).ops
     ≤ 0x4000 * suc (length waiting)
@@ -86,7 +86,7 @@ pub record Bounds (code : Code) (g : graph.State) (s : machine.State) : Type 0 w
   pub top : word_of Ebp s + 8 ≤ stack_end code.text (objects_of code.program)
 
 -- the return address of the youngest call is in the data
-returns-at : (code : Code) (active : List Activation) (frames : List ℕ) (s : machine.State) (younger : Activation)
+pub returns-at : (code : Code) (active : List Activation) (frames : List ℕ) (s : machine.State) (younger : Activation)
     (frame : ℕ) (waiting : List Waiting) (older : List ℕ)
     → WaitFrom code active frames s younger frame waiting older → (r : ℕ) × (load 4 (frame + 4) s ≡ Ok r)
 returns-at code active frames s younger frame [] [] (main, none, r, returns, behind) = (r, returns)
@@ -106,6 +106,7 @@ bounds code input g s h state shown =
       size = areas.2;
       above = text-above code.text;
       below = h.fits;
+      small = data-small code.text (data_start code.text) areas.0 s.memory areas.1 shown.small;
       registers = shown.registers;
     } in
     let small = stack-small code g.current g.waiting h state.active state.waiting in

@@ -2,6 +2,7 @@
 -- new call begun.
 use Rattle.std.specs.Prelude.{◌≡◌, ◌≢◌, ◌-◌, ◌+◌, ◌*◌, ◌≤◌, ℕ, List, [], ◌∷◌, length, map, drop, slice_get, Some, Ok}
 use Rattle.std.specs.Prelude.{option_map}
+use Rattle.std.specs.List.{AllByRecursion}
 use Rattle.pcc_base.specs.Outcome.{Value}
 use Rattle.ia32_insn.specs.declared.register_names.Reg32.TheVariants.{Esp, Ebp}
 use Rattle.ia32_insn.specs.Registers.{AreRegisters}
@@ -17,7 +18,7 @@ use Rattle.flow_graph.specs.States as graph
 use Rattle.flow_graph.specs.States.{Activation, Waiting, active_of, depth_of, first_activation, flow_at}
 use Rattle.flow_graph.specs.WellFormed.{IsWaiting}
 use Rattle.ia32_rows.specs.Placements.{Code, objects_of, placement_of}
-use Rattle.ia32_rows.specs.Shows.{ArgumentsStand, FrameArraysStand, HoldsOldArrays, ObjectsStand, ReturnsTo}
+use Rattle.ia32_rows.specs.Shows.{ArgumentsStand, FrameArraysStand, HasBytes, HoldsOldArrays, ObjectsStand, ReturnsTo}
 use Rattle.ia32_rows.specs.Shows.{StandsIn, WaitFrom, stack_bytes}
 
 -- The youngest call that waits, and the one that it has just called, whose frame is going to be at this address. The
@@ -60,6 +61,7 @@ pub record Called (code : Code) (input : List ℕ) (g : graph.State) (s : machin
   pub placed : Stands (flow_at code.program g.current.function) g.point g.block
   pub shapes : map shape_of s.memory ≡ map shape_of (text_state code.text (objects_of code.program) input).memory
   pub text : option_map (λ (a : machine.Area). a.bytes) (slice_get s.memory 0) ≡ Some code.text
+  pub small : AllByRecursion HasBytes s.memory
   -- the stack
   pub room : stack_end code.text (objects_of code.program)
       ≤ frame + 8 + 4 * length g.current.arguments + stack_bytes code (map (λ w. w.activation) g.waiting)

@@ -80,9 +80,12 @@ NegationFollows = (d a : ℕ) → RowFollows (op.Neg d a)
 abbrev pub ComplementFollows : Type 0
 ComplementFollows = (d a : ℕ) → RowFollows (op.Not d a)
 
--- a byte made a word
+-- a byte made a word, with its sign and with zero bits
 abbrev pub ExtensionFollows : Type 0
 ExtensionFollows = (d a : ℕ) → RowFollows (op.Wide d a)
+
+abbrev pub ZeroExtensionFollows : Type 0
+ZeroExtensionFollows = (d a : ℕ) → RowFollows (op.Zero d a)
 
 -- a mark and a turn
 abbrev pub MarkFollows : Type 0

@@ -13,7 +13,9 @@ use Rattle.ia32_insn.specs.declared.item.Item.TheVariants as item
 use Rattle.ia32_insn.specs.Items.{plain}
 use Rattle.flow_graph.specs.declared.op.Comparison.TheVariants.{Lt, Ge}
 use Rattle.ia32_rows.specs.Placements.{below}
-use Rattle.ia32_rows.specs.Rows.{branching, dividing, halving, lowering, setting, shifting}
+use Rattle.flow_graph.specs.declared.op.Order.TheVariants as order
+use Rattle.ia32_rows.specs.Rows.{branching, cond_of, cond_of_order, dividing, halving, lowering, setting, shifting}
+use Rattle.ia32_rows.specs.Rows.{widening, zero_edx}
 
 -- Over slots a shift is four instructions, and one where the operand is in the result's place and the count in CL.
 -- Where the result stands in ECX it goes by ESI.
@@ -34,34 +36,42 @@ ShiftsAreRows =
 -- A division by what stands in EDX or EAX goes by ESI; else the divisor is read where it stands.
 abbrev pub DivisionsAreRows : Type 0
 DivisionsAreRows =
-    (dividing Eax (InSlot 28) (InSlot 20) (InSlot 24)
+    (dividing insn.Cdq insn.IDiv Eax (InSlot 28) (InSlot 20) (InSlot 24)
     ≡ plain (insn.MovLoad Eax (below 20)) ∷ plain insn.Cdq ∷ plain (insn.IDiv (rm.Mem (below 24)))
     ∷ plain (insn.Mov (rm.Mem (below 28)) Eax) ∷ [])
-    × (dividing Eax (InWord Eax) (InWord Eax) (InWord Ebx)
+    × (dividing insn.Cdq insn.IDiv Eax (InWord Eax) (InWord Eax) (InWord Ebx)
     ≡ plain insn.Cdq ∷ plain (insn.IDiv (rm.Reg Ebx)) ∷ [])
-    × (dividing Edx (InWord Edx) (InWord Ecx) (InWord Eax)
+    × (dividing insn.Cdq insn.IDiv Edx (InWord Edx) (InWord Ecx) (InWord Eax)
     ≡ plain (insn.Mov (rm.Reg Esi) Eax) ∷ plain (insn.Mov (rm.Reg Eax) Ecx) ∷ plain insn.Cdq
     ∷ plain (insn.IDiv (rm.Reg Esi)) ∷ [])
+    × (dividing zero_edx insn.Div Eax (InWord Eax) (InWord Eax) (InWord Ebx)
+    ≡ plain (insn.Alu alu.Xor (rm.Reg Edx) Edx) ∷ plain (insn.Div (rm.Reg Ebx)) ∷ [])
 
 -- Comparisons: one instruction before the condition, unless both words are in memory. A branch that moves something on
 -- the way that it takes leads to a label of its own.
 abbrev pub ComparisonsAreRows : Type 0
 ComparisonsAreRows =
-    (setting Lt (InWord Ebx) (InWord Eax) (InSlot 20)
+    (setting (cond_of Lt) (InWord Ebx) (InWord Eax) (InSlot 20)
     ≡ plain (insn.AluLoad alu.Cmp Eax (below 20)) ∷ plain (insn.SetCc cond.L (rm8.Reg Bl))
     ∷ plain (insn.MovZx8 Ebx (rm8.Reg Bl)) ∷ [])
-    × (branching Ge 9 (InSlot 20) (InWord Edx) [] [] 3 4
+    × (branching (cond_of Ge) 9 (InSlot 20) (InWord Edx) [] [] 3 4
     ≡ plain (insn.Alu alu.Cmp (rm.Mem (below 20)) Edx) ∷ item.JumpIf cond.Ge 3 ∷ item.JumpTo 4 ∷ [])
-    × (branching Lt 9 (InSlot 20) (InSlot 24) [] [] 3 4
+    × (branching (cond_of Lt) 9 (InSlot 20) (InSlot 24) [] [] 3 4
     ≡ plain (insn.MovLoad Esi (below 20)) ∷ plain (insn.AluLoad alu.Cmp Esi (below 24)) ∷ item.JumpIf cond.L 3
     ∷ item.JumpTo 4 ∷ [])
-    × (branching Ge 9 (InSlot 20) (InWord Edx) (plain (insn.Mov (rm.Reg Ebx) Eax) ∷ []) [] 3 4
+    × (branching (cond_of Ge) 9 (InSlot 20) (InWord Edx) (plain (insn.Mov (rm.Reg Ebx) Eax) ∷ []) [] 3 4
     ≡ plain (insn.Alu alu.Cmp (rm.Mem (below 20)) Edx) ∷ item.JumpIf cond.Ge 9 ∷ item.JumpTo 4 ∷ item.Label 9
     ∷ plain (insn.Mov (rm.Reg Ebx) Eax) ∷ item.JumpTo 3 ∷ [])
+    × (setting (cond_of_order order.Lt) (InWord Ebx) (InWord Eax) (InSlot 20)
+    ≡ plain (insn.AluLoad alu.Cmp Eax (below 20)) ∷ plain (insn.SetCc cond.B (rm8.Reg Bl))
+    ∷ plain (insn.MovZx8 Ebx (rm8.Reg Bl)) ∷ [])
 
--- The low byte and the low 16 bits of a register's word are one instruction.
+-- The low byte and the low 16 bits of a word are one instruction, in a register and in a slot; so is a byte extended.
 abbrev pub PartsAreRows : Type 0
 PartsAreRows =
     (lowering (InByte Dh) (InWord Ebx) ≡ plain (insn.Mov8 (rm8.Reg Dh) Bl) ∷ [])
     × (lowering (InSlot 20) (InWord Ebx) ≡ plain (insn.Mov (rm.Mem (below 20)) Ebx) ∷ [])
     × (halving (InWord Eax) (InWord Ebx) ≡ plain (insn.MovSx16 Eax (rm.Reg Ebx)) ∷ [])
+    × (lowering (InByte Dh) (InSlot 20) ≡ plain (insn.Mov8Load Dh (below 20)) ∷ [])
+    × (halving (InWord Eax) (InSlot 20) ≡ plain (insn.MovSx16 Eax (rm.Mem (below 20))) ∷ [])
+    × (widening insn.MovZx8 (InWord Eax) (InByte Dh) ≡ plain (insn.MovZx8 Eax (rm8.Reg Dh)) ∷ [])

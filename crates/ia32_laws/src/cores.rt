@@ -1,21 +1,29 @@
 ghost use Rattle.ia32_laws.specs.Words.{ComparisonDecides, LeftShiftIs, RightShiftIs, LowHalfIs};
-ghost use Rattle.ia32_laws.specs.Words.{DivisionTraps, DivisionIs};
+ghost use Rattle.ia32_laws.specs.Words.{DivisionTraps, DivisionIs, OrderDecides, UnsignedDivisionIs};
+ghost use Rattle.ia32_laws.specs.Words.{UnsignedDivisionTraps, UnsignedShiftIs, ZeroExtensionIs};
 ghost use Rattle.ia32_laws.specs.CoresLaws.{LowPuts, HalfPuts, ShiftPuts, PlacesCompare, SetPuts, BranchGoes};
 ghost use Rattle.ia32_laws.specs.CoresLaws.{DivisionStops, QuotientPuts, RemainderPuts, WordPasses};
 ghost use Rattle.ia32_laws.specs.CoresOps.{LowFollows, HalfFollows, LeftShiftFollows, RightShiftFollows};
 ghost use Rattle.ia32_laws.specs.CoresOps.{NumbersSetFollow, QuotientFollows, RemainderFollows};
-ghost use Rattle.ia32_laws.specs.CoresOps.{NumbersBranchFollow, JumpFollows, BlocksStand};
+ghost use Rattle.ia32_laws.specs.CoresOps.{NumbersBranchFollow, JumpFollows, BlocksStand, UnsignedQuotientFollows};
+ghost use Rattle.ia32_laws.specs.CoresOps.{UnsignedRemainderFollows, UnsignedRightShiftFollows};
 ghost use Rattle.ia32_laws.specs.Worked.{ShiftsAreRows, DivisionsAreRows, ComparisonsAreRows, PartsAreRows};
 
 /// What instructions make of the words of numbers is what the ops make of the numbers: the conditions of comparisons
-/// after CMP, SHL and SAR by a byte, CDQ with IDIV, and MOVSX of 16 bits.
+/// after CMP, of numbers with sign and without, SHL, SAR and SHR by a byte, CDQ with IDIV, DIV with 0 above the
+/// dividend, MOVSX of 16 bits, and MOVZX of a byte.
 pub fn words_are_numbers()
     ensures comparison { ComparisonDecides }
+    ensures order { OrderDecides }
     ensures shl { LeftShiftIs }
     ensures sar { RightShiftIs }
+    ensures shr { UnsignedShiftIs }
     ensures no_quotient { DivisionTraps }
     ensures quotient { DivisionIs }
+    ensures no_unsigned_quotient { UnsignedDivisionTraps }
+    ensures unsigned_quotient { UnsignedDivisionIs }
     ensures low_half { LowHalfIs }
+    ensures zero_extension { ZeroExtensionIs }
 {}
 
 /// The low byte and the low 16 bits of the word of a place, and a word shifted by a byte, come to another place.
@@ -25,15 +33,15 @@ pub fn rows_of_words()
     ensures shift { ShiftPuts }
 {}
 
-/// Two words compare where they stand: 1 or 0 comes to a place by how the signed numbers in them compare, and a branch
-/// leads to what stands behind the label that they choose.
+/// Two words compare where they stand: 1 or 0 comes to a place by whether the flags of CMP meet a condition, and a branch
+/// leads to what stands behind the label that the condition chooses.
 pub fn rows_compare_words()
     ensures flags { PlacesCompare }
     ensures set { SetPuts }
     ensures branch { BranchGoes }
 {}
 
-/// A division of the words of two places comes to IDIV and traps there where they have no quotient; else the quotient
+/// A division of the words of two places comes to IDIV, or to DIV where they have no sign, and traps there where they have no quotient; else the quotient
 /// or the remainder comes to a third place.
 pub fn rows_divide_words()
     ensures stops { DivisionStops }
@@ -54,8 +62,11 @@ pub fn rows_follow_steps()
     ensures set { NumbersSetFollow }
     ensures shl { LeftShiftFollows }
     ensures sar { RightShiftFollows }
+    ensures shr { UnsignedRightShiftFollows }
     ensures div { QuotientFollows }
     ensures rem { RemainderFollows }
+    ensures udiv { UnsignedQuotientFollows }
+    ensures urem { UnsignedRemainderFollows }
     ensures branch { NumbersBranchFollow }
     ensures jump { JumpFollows }
     ensures blocks { BlocksStand }

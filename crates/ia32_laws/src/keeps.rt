@@ -2,7 +2,7 @@ ghost use Rattle.ia32_laws.specs.KeepsLaws.{ShownInFrame, ProtectedIsApart, Push
 ghost use Rattle.ia32_laws.specs.KeepsLaws.{ArrayShows, OwnArrayShows, ElementShows};
 ghost use Rattle.ia32_laws.specs.MovesLaws.{MovesLead, MovesShow};
 ghost use Rattle.ia32_laws.specs.MovesWorked.{MovesSupport};
-ghost use Rattle.ia32_laws.specs.KeepsOps.{ExtensionFollows, NumberFollows, CopyFollows, SumFollows};
+ghost use Rattle.ia32_laws.specs.KeepsOps.{ExtensionFollows, NumberFollows, CopyFollows, SumFollows, ZeroExtensionFollows};
 ghost use Rattle.ia32_laws.specs.KeepsOps.{DifferenceFollows, AndFollows, OrFollows, XorFollows, ProductFollows};
 ghost use Rattle.ia32_laws.specs.KeepsOps.{NegationFollows, ComplementFollows, MarkFollows, TurnFollows};
 
@@ -57,6 +57,7 @@ pub fn rows_follow()
     ensures negation { NegationFollows }
     ensures complement { ComplementFollows }
     ensures extension { ExtensionFollows }
+    ensures zero_extension { ZeroExtensionFollows }
     ensures mark { MarkFollows }
     ensures turn { TurnFollows }
 {}

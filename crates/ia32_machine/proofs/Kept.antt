@@ -9,9 +9,9 @@ use Rattle.ia32_insn.specs.declared.insn.Insn.{Insn}
 use Rattle.ia32_insn.specs.State.{State, Area, has_bytes, code_at, may_store, stored, with_bytes, at_address}
 use Rattle.ia32_insn.specs.Meaning.{Moved, Moves, Halts, moved_of, and_then, store_bytes, effect, target, perform}
 use Rattle.ia32_insn.proofs.Splices.{length-replaced}
-use Rattle.ia32_insn.proofs.Memory.{inside}
+use Rattle.ia32_insn.proofs.Memory.{inside, mapped}
 use Rattle.ia32_insn.proofs.Access.{store_bytes-ok}
-use Rattle.ia32_insn.proofs.Kept.{IsKept, effect-kept}
+use Rattle.ia32_insn.proofs.Kept.{IsKept, effect-kept, if-ok}
 use Rattle.ia32_machine.specs.Code.{IsFixed, KeepsCode}
 
 -- ---- tests
@@ -40,12 +40,6 @@ passes-part false b x y e = refl
 -- what is kept at one address
 abbrev Keeps : ℕ → List Area → List Area → Type 0
 Keeps b old new = IsFixed b new × (code_at b new ≡ code_at b old)
-
--- what a mapped option came from
-mapped : {X Y : Type 0} (f : X → Y) (o : Option X) (y : Y) → option_map f o ≡ Some y → (x : X) × (o ≡ Some x)
-    × (f x ≡ y)
-mapped f None y e = absurd (none-some y e)
-mapped f (Some x) y e = (x, refl, same_Some (f x) y e)
 
 -- a store to the first area, which may be written, and so doesn't have the address
 here : (a b : ℕ) (bytes : List ℕ) (area : Area) (areas : List Area) → (area.writable && has_bytes area a (length bytes))
@@ -109,11 +103,6 @@ keeps-then old mid new p q =
 
 pub keeps-same : (memory : List Area) → KeepsCode memory memory
 keeps-same memory = λ b free. (free, refl)
-
--- what holds of each value that is given
-if-ok : {X : Type 0} (a : Result X End) (P : X → Type 0) → ((x : X) → a ≡ Ok x → P x) → IfOk a P
-if-ok (Ok x) P h = h x refl
-if-ok (Err end) P h = tt
 
 effect-keeps : (i : Insn) (after : ℕ) (s : State) → IfOk (effect i after s) (λ t. KeepsCode s.memory t.memory)
 effect-keeps i after s =

@@ -16,7 +16,7 @@ use Rattle.flow_graph.specs.Liveness.{IsBehind, IsSuccessor, LeadsTo}
 use Rattle.allocator.specs.WorkedBoards.{five_in_eax, five_returned, in_area}
 use Rattle.puzzle_board.specs.declared.place.Place.{Place as BoardPlace}
 use Rattle.puzzle_board.specs.Places.{place_in}
-use Rattle.allocator.proofs.LegalExample.{legal-map}
+use Rattle.allocator.proofs.LegalExample.{legal-map, behind-first}
 use Rattle.ia32_rows.specs.Contains.{Contains}
 use Rattle.ia32_rows.specs.Copying.{Copies}
 use Rattle.ia32_rows.proofs.Moves.{copy-puts}
@@ -51,11 +51,6 @@ is-flow = record {
   few_blocks = omega arith;
   few_points = omega arith;
 }
-
--- point 0 leads to point 1, and no other to any
-behind-first : (next : ℕ) → IsBehind five_returned 0 next → 1 ≡ next
-behind-first next (zero, e) = same_Some 1 next e
-behind-first next (suc block, e) = absurd (none-some next e)
 
 one-edge : (point next : ℕ) → IsSuccessor five_returned point next → (0 ≡ point) × (1 ≡ next)
 one-edge zero next (placed, op, e, leads) = (

@@ -30,6 +30,7 @@ use Rattle.allocator.proofs.Fixing.{fixed-dies}
 use Rattle.allocator.proofs.Members.{in-with-result, made-there, named-some, result-in, some-named, use-there}
 use Rattle.allocator.proofs.Putting.{name-placed, placed-name}
 use Rattle.ia32_placements.proofs.Boards.{each-stands, unspilled-has}
+use Rattle.allocator.proofs.Points.{use-upper, two-tests, fixed-of}
 
 -- ---- cells
 
@@ -75,26 +76,11 @@ both-sides (Some s) (Some t) spot e = by (same_spot s t) refl e
 
 -- ---- one side
 
-two-tests : (b : Bool) → (b ≡ true) ⊎ (b ≡ false)
-two-tests true = inl refl
-two-tests false = inr refl
-
-use-upper : (a d : Bool) → is_upper (use_kind a d) ≡ true
-use-upper true true = refl
-use-upper true false = refl
-use-upper false d = refl
-
 -- what lives through is a Y
 lives-through : (a d : Bool) → a ≡ true → d ≡ false → use_kind a d ≡ Y
 lives-through true false e f = refl
 lives-through true true e f = absurd (true≢false f)
 lives-through false d e f = absurd (true≢false (sym e))
-
--- the fixed piece is this variable's
-fixed-of : (o : Option Fixed) (v : ℕ) → is_named (fixed_variable o) v ≡ true
-    → (f : Fixed) × (o ≡ Some f) × (f.variable ≡ v)
-fixed-of None v e = absurd (true≢false (sym e))
-fixed-of (Some f) v e = (f, refl, same_Some f.variable v (named-some (Some f.variable) v e))
 
 module _ (flow : Flow) (lives : Lives) (places : PlaceMap) (point : ℕ) (op : Op) where
   abbrev pieces : List Piece

@@ -28,7 +28,7 @@ use Rattle.puzzle_board.specs.declared.place.Place.TheVariants.{Cells, Slot}
 use Rattle.puzzle_board.specs.Areas.{is_of_width, share_column, share_row}
 use Rattle.puzzle_board.specs.Placements.{Standing, fits_at}
 use Rattle.puzzle_board.specs.Places.{PlaceMap}
-use Rattle.puzzle_board.proofs.Standings.{fits_at-below}
+use Rattle.puzzle_board.proofs.Standings.{fits_at-below, share_column-comm as column-turn}
 use Rattle.allocator.specs.PointBoards.{Fixed, areas_by, areas_of, fixed_result, fixed_use}
 use Rattle.allocator.specs.PointMaps.{IsLegalMap, IsLegalPoint, place_after, place_before, slot_of}
 use Rattle.allocator.specs.Sides.{is_lower, is_upper}
@@ -96,22 +96,11 @@ pub stood : (o : Option BoardPlace) (p : Place) → standing_if_any o ≡ Some p
 stood None p e = absurd (none-some p e)
 stood (Some place) p e = (place, (refl, e))
 
-column-turn : (c d : Columns) → share_column c d ≡ share_column d c
-column-turn Low Low = refl
-column-turn Low High = refl
-column-turn Low All = refl
-column-turn High Low = refl
-column-turn High High = refl
-column-turn High All = refl
-column-turn All Low = refl
-column-turn All High = refl
-column-turn All All = refl
-
 free-turn : (s t : Spot) → AreFree s t.area t.columns → AreFree t s.area s.columns
 free-turn s t (inl other) = inl (λ same. other (sym same))
 free-turn s t (inr free) = inr (column-turn t.columns s.columns ∙ free)
 
-four-areas : (takes : Takes) → length (areas_by takes) ≡ 4
+pub four-areas : (takes : Takes) → length (areas_by takes) ≡ 4
 four-areas NoRegister = refl
 four-areas (Count count shifted) = refl
 four-areas (Division dividend divisor gives) = refl

@@ -60,14 +60,14 @@ word-low site a w b s sound from to four one small =
     counted x k w y b z e f g h i = omega arith
 
 -- what a store of a byte in the data leaves
-record StoredByte (site : Site) (a value : ℕ) (s t : State) : Type 0 where
-  is : store 1 a value s ≡ Ok t
-  sound : SoundAt site t
-  same : load 1 a t ≡ Ok value
-  apart : (n b v : ℕ) → AreDisjoint a 1 b n → load n b s ≡ Ok v → load n b t ≡ Ok v
-  rest : KeepsAllButMemory s t
+pub record StoredByte (site : Site) (a value : ℕ) (s t : State) : Type 0 where
+  pub is : store 1 a value s ≡ Ok t
+  pub sound : SoundAt site t
+  pub same : load 1 a t ≡ Ok value
+  pub apart : (n b v : ℕ) → AreDisjoint a 1 b n → load n b s ≡ Ok v → load n b t ≡ Ok v
+  pub rest : KeepsAllButMemory s t
 
-store-byte-in : (site : Site) (a value : ℕ) (s : State) → SoundAt site s → site.low ≤ a → a + 1 ≤ site.high
+pub store-byte-in : (site : Site) (a value : ℕ) (s : State) → SoundAt site s → site.low ≤ a → a + 1 ≤ site.high
     → value < 256 → (t : State) × StoredByte site a value s t
 store-byte-in site a value s h from to fits =
     let new : List ℕ = little_bytes 1 value in
@@ -128,7 +128,7 @@ store_byte-makes site frame r k s framed some within =
 -- ---- the copy
 
 -- one byte of memory
-stored_byte-keeps : (site : Site) (a v : ℕ) (s t : State) → StoredByte site a v s t
+pub stored_byte-keeps : (site : Site) (a v : ℕ) (s t : State) → StoredByte site a v s t
     → Keeps (λ k. ⊤) (λ b n. AreDisjoint a 4 b n) s t
 stored_byte-keeps site a v s t h =
     record {

@@ -59,7 +59,7 @@ label-among site front back start label h =
 -- ---- jumps
 
 -- where the target of a jump is an address at which items stand, it leads there
-landed : (site : Site) (items : List Item) (address goal : ℕ) (s : State) → StandsFrom site items address
+pub landed : (site : Site) (items : List Item) (address goal : ℕ) (s : State) → StandsFrom site items address
     → goal % 2 ^ 32 ≡ address → ReadyAt site items (at_address goal s)
 landed site items address goal s h at =
     record {
@@ -81,12 +81,12 @@ jump-leads site front back rest start label s sound stands ready =
     )
 
 -- what a condition gives where it is known
-decides : (o : Option Bool) (b : Bool) (s : State) → o ≡ Some b
+pub decides : (o : Option Bool) (b : Bool) (s : State) → o ≡ Some b
     → (let known : Result Bool End = or_end o (Stopped UnknownFlags s.eip) in known) ≡ Ok b
 decides o b s e = ap (λ (x : Option Bool). let known : Result Bool End = or_end x (Stopped UnknownFlags s.eip) in known)
     e
 
-branch-effect : (c : Cond) (b : Bool) (s : State) → holds c s.flags ≡ Some b
+pub branch-effect : (c : Cond) (b : Bool) (s : State) → holds c s.flags ≡ Some b
     → (let done : Result State End = and_then (or_end (holds c s.flags) (Stopped UnknownFlags s.eip)) (λ known. Ok s) in
     done) ≡ Ok s
 branch-effect c b s e =

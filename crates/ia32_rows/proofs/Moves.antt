@@ -36,15 +36,13 @@ use Rattle.ia32_rows.proofs.Kept.{stored-keeps, word-kept, other-cells, framed-k
 use Rattle.ia32_rows.proofs.Straight.{leads-join}
 use Rattle.ia32_rows.proofs.Instructions.{move-makes, number-makes, byte_number-makes, load-makes, load_byte-makes}
 use Rattle.ia32_rows.proofs.Instructions.{extend-makes, byte-makes, store-makes, store_number-makes}
+pub use Rattle.ia32_rows.proofs.Sets.{unlike}
 
 -- ---- numbers of registers
 
 -- what the test of two numbers says
 pub alike : (m n : ℕ) → (m == n) ≡ true → m ≡ n
 alike m n e = grind (arith, nat_tests)
-
-pub unlike : (m n : ℕ) → (m == n) ≡ false → m ≢ n
-unlike m n e = grind (arith, nat_tests)
 
 -- registers of one number have one word
 pub same-word : (r q : Reg32) (s : State) → number32 r ≡ number32 q → word_of r s ≡ word_of q s
@@ -119,7 +117,7 @@ read-gives site frame t (InSlot k) w s framed works holds placed contains fits =
     (load-makes site frame t k w s framed (omega arith) placed.high contains)
 
 -- a byte with its sign is a word
-extended-fits : (b : ℕ) → b < 256 → extended8 b < 2 ^ 32
+pub extended-fits : (b : ℕ) → b < 256 → extended8 b < 2 ^ 32
 extended-fits b h = grind (arith, ints)
 
 pub extend-gives : ExtendGives

@@ -36,7 +36,7 @@ four_fits : 4 < 2 ^ 32
 four_fits = omega arith
 
 -- four bytes lower, and eight bytes higher
-four-lower : (a e : ℕ) → a + 4 ≡ e → a ≡ e - 4
+pub four-lower : (a e : ℕ) → a + 4 ≡ e → a ≡ e - 4
 four-lower a e h = omega arith
 
 four-higher : (a e : ℕ) → a + 4 ≡ e → a + 8 ≡ e + 4

@@ -421,7 +421,7 @@ ebp-untouched frame (InByte r) placed m below =
 ebp-untouched frame (InSlot k) placed m below = (tt, inl (omega arith), inl (omega arith))
 
 -- places apart have cells apart
-cells-apart : (frame : ℕ) (p q : Place) → IsPlaceIn frame q → ArePlacesApart p q → PlaceHasCells (Untouched p) q
+pub cells-apart : (frame : ℕ) (p q : Place) → IsPlaceIn frame q → ArePlacesApart p q → PlaceHasCells (Untouched p) q
 cells-apart frame (InWord r) (InWord t) placed apart =
     let b = general-below t placed in
     λ m below. (other-cells t r (λ e. apart (sym e)) m below, inl (omega arith), inl (omega arith))
@@ -442,7 +442,7 @@ cells-apart frame (InSlot k) (InByte t) placed apart =
 cells-apart frame (InSlot k) (InSlot b) placed apart = tt
 
 -- and memory apart
-memory-apart : (frame base : ℕ) (p q : Place) → frame ≤ base → IsPlaceIn frame p → IsPlaceIn frame q
+pub memory-apart : (frame base : ℕ) (p q : Place) → frame ≤ base → IsPlaceIn frame p → IsPlaceIn frame q
     → ArePlacesApart p q → PlaceHasMemory (ApartFromPlace base p) base q
 memory-apart frame base p (InWord t) h one two apart = tt
 memory-apart frame base p (InByte t) h one two apart = tt

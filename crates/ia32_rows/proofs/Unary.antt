@@ -29,7 +29,7 @@ use Rattle.ia32_rows.specs.Laws.{Gives, IsWorking, Puts}
 use Rattle.ia32_rows.specs.Unary.{ComplementPuts, ExtensionPuts, NegationPuts, ZeroExtensionPuts}
 use Rattle.ia32_rows.proofs.Kept.{framed-kept, other-cells, result-keeps}
 use Rattle.ia32_rows.proofs.Instructions.{below-loaded, result-makes}
-use Rattle.ia32_rows.proofs.Moves.{extend-gives, read-gives}
+use Rattle.ia32_rows.proofs.Moves.{extend-gives, read-gives, extended-fits as extended-small}
 use Rattle.ia32_rows.proofs.Sums.{gives-behind, target-puts, target-works}
 
 -- ---- on a register
@@ -120,9 +120,6 @@ extend_slot-makes site frame r k v s framed some within held =
       sound = result-makes site r (extended8 v) s.flags s framed.sound;
     }
 
-extended-small : (b : ℕ) → b < 256 → extended8 b < 2 ^ 32
-extended-small b h = grind (arith, ints)
-
 extend-gives-any : (site : Site) (frame : ℕ) (t : Reg32) (q : Place) (b : ℕ) (s : State) → Framed site frame s
     → IsWorking t → IsPlaceIn frame q → Contains s One q b → b < 256
     → (u : State) × Gives site frame (extend insn.MovSx8 t q) t (extended8 b) s u
@@ -147,7 +144,7 @@ zero-makes : (site : Site) (r : Reg32) (q : Reg8) (s : State) → SoundAt site s
 zero-makes site r q s sound =
     record { straight = tt; does = λ address. refl; sound = result-makes site r (byte_of q s) s.flags s sound }
 
-zero_slot-makes : (site : Site) (frame : ℕ) (r : Reg32) (k v : ℕ) (s : State) → Framed site frame s → 0 < k
+pub zero_slot-makes : (site : Site) (frame : ℕ) (r : Reg32) (k v : ℕ) (s : State) → Framed site frame s → 0 < k
     → k ≤ frame → load 1 (word_of Ebp s - k) s ≡ Ok v
     → Makes site (insn.MovZx8 r (rm8.Mem (below k))) s (with_result r v s.flags s)
 zero_slot-makes site frame r k v s framed some within held =

@@ -1,8 +1,9 @@
 -- A state of the machine shows a state of a program of graphs.
-use Rattle.std.specs.Prelude.{◌≡◌, ◌≢◌, ℕ, ◌+◌, ◌-◌, ◌*◌, ◌%◌, ◌<◌, ◌≤◌, ◌^◌, ⊤, ℤ, List, [], ◌∷◌, ◌++◌}
+use Rattle.std.specs.Prelude.{◌≡◌, ◌≢◌, ℕ, ◌+◌, ◌-◌, ◌*◌, ◌%◌, ◌<◌, ◌≤◌, ◌^◌, ⊤, ℤ, true, List, [], ◌∷◌, ◌++◌}
 use Rattle.std.specs.List.{AllByRecursion}
 use Rattle.std.specs.Prelude.{length, map, take, drop, slice_get, Option, Some, None, option_map, Ok, FitsSigned}
 use Rattle.std.specs.Int.{w8, w32, cast_unsigned}
+use Rattle.pcc_base.specs.Bytes.{AreBytes}
 use Rattle.pcc_base.specs.Outcome.{ArrayName, Null, Static, InFrame, Unknown, Value, Number, Array}
 use Rattle.pcc_base.specs.declared.run.Width.{Width}
 use Rattle.pcc_base.specs.declared.run.Width.TheVariants.{One, Two}
@@ -223,6 +224,10 @@ FrameArraysStand code s frame a =
     × (slice_get (placement_of code a.function).arrays k ≡ Some below) × (address + below ≡ frame)
     × ElementsStand s address array.0 elements
 
+-- what an area has that may be written are bytes
+abbrev pub HasBytes : machine.Area → Type 0
+HasBytes area = area.writable ≡ true → AreBytes area.bytes
+
 -- ---- the whole
 
 -- The state s of the machine shows the state g of the program over an input, with the current call's variables in these
@@ -233,11 +238,12 @@ pub record ShowsIn (code : Code) (input : List ℕ) (places : ℕ → Option Pla
   pub frames : List ℕ
   pub older : List ℕ
   pub youngest : frames ≡ word_of Ebp s ∷ older
-  -- the registers are registers, the point is in its block, and memory is that of the image, with its text
+  -- the registers are registers, the point is in its block, and memory is that of the image, with its text, and bytes
   pub registers : AreRegisters s.registers
   pub placed : Stands (flow_at code.program g.current.function) g.point g.block
   pub shapes : map shape_of s.memory ≡ map shape_of (text_state code.text (objects_of code.program) input).memory
   pub text : option_map (λ (a : machine.Area). a.bytes) (slice_get s.memory 0) ≡ Some code.text
+  pub small : AllByRecursion HasBytes s.memory
   pub eip : s.eip ≡ address
   -- the stack
   pub esp : word_of Esp s + (placement_of code g.current.function).frame ≡ word_of Ebp s

@@ -120,7 +120,7 @@ permuted-states board xs ys permuted =
 
 -- ---- ascending
 
-same-test : (m n : ℕ) → m ≡ n → (m == n) ≡ true
+pub same-test : (m n : ℕ) → m ≡ n → (m == n) ≡ true
 same-test m n is = grind (arith, nat_tests)
 
 more-occur : (v w : ℕ) (ws : List ℕ) → occurrences v ws ≤ occurrences v (w ∷ ws)

@@ -17,6 +17,8 @@ use Rattle.puzzle_board.specs.Boards.{Puzzle, is_piece, pieces_of, remaining, re
 use Rattle.puzzle_board.specs.Boards.{same_width, standing, standing_in, without_variable}
 use Rattle.puzzle_solver.specs.Prefixes.{without_variables}
 use Rattle.least_spill.specs.Removing.{holders}
+pub use Rattle.puzzle_solver.proofs.Spilling.{without-areas}
+use Rattle.least_spill.proofs.Ordered.{same-test}
 
 -- ---- without a variable
 
@@ -74,10 +76,6 @@ pub remaining-rests :
 remaining-rests board [] = refl
 remaining-rests board (v ∷ vs) =
     remaining-rests (without_variable board v) vs ∙ ap (λ ps. rests vs ps) (remaining-without board v)
-
-pub without-areas : (board : Puzzle) (vs : List ℕ) → (without_variables board vs).areas ≡ board.areas
-without-areas board [] = refl
-without-areas board (v ∷ vs) = without-areas (without_variable board v) vs
 
 pub without-push :
     (board : Puzzle) (vs : List ℕ) (v : ℕ)
@@ -198,9 +196,6 @@ six-kinds (p ∷ ps) =
 abbrev pub IsIn : Piece → List Piece → Type 0
 IsIn p [] = ⊥
 IsIn p (q ∷ qs) = (p ≡ q) ⊎ IsIn p qs
-
-same-test : (m n : ℕ) → m ≡ n → (m == n) ≡ true
-same-test m n is = grind (arith, nat_tests)
 
 held-step :
     (p q : Piece) (qs : List Piece) → 1 ≤ holders p.var qs → 1 ≤ holders p.var (q ∷ qs)

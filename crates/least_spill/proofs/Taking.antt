@@ -18,6 +18,7 @@ use Rattle.puzzle_solver.proofs.Ends.{unplaced-remaining}
 use Rattle.least_spill.specs.Most.{IsPart}
 use Rattle.least_spill.specs.Removing.{AreApart, IsTaken, IsWithout, holders, occurrences}
 use Rattle.least_spill.proofs.Removals.{in-remaining, one-out, remaining-without, rest, without-push}
+use Rattle.puzzle_solver.proofs.Fillings.{cond-next as taken-n, cond-zero as taken-0}
 
 -- where nothing stands, the pieces that remain are counted
 pub counted-remaining :
@@ -77,14 +78,6 @@ taken-one kind width number now new p before stands apart (q, at, waits, kind-is
       ∙ ap (λ (ps : List Piece). count_by f ps + cond (f p) 1 0) (sym left)
 
 -- ---- several
-
-taken-0 : (b : Bool) → cond {A = ℕ} b 0 0 ≡ 0
-taken-0 true = refl
-taken-0 false = refl
-
-taken-n : (b : Bool) (n : ℕ) → cond {A = ℕ} b (n + 1) 0 ≡ cond b n 0 + cond b 1 0
-taken-n true n = refl
-taken-n false n = refl
 
 pub taken-none :
     (kind : Kind) (width : Width) (now : Puzzle) (before : List ℕ) → standing now ≡ [] → AreApart now

@@ -19,13 +19,9 @@ use Rattle.lower_lines.specs.Lines.{points_in, starts_in}
 use Rattle.lower_lines.proofs.Standing.{closes-parts, here-open, here_after, not-started, open-append}
 use Rattle.lower_lines.proofs.Standing.{open-started, ops-append, points-append, starts-append}
 use Rattle.lower_builder.specs.Graphs.{AllFit, AreClosed, CanFollow, graph_behind, last_behind}
+use Rattle.lower_lines.proofs.Points.{distinct-front}
 
 -- ---- lists
-
-distinct-front : (b : ℕ) (xs ys : List ℕ) → IsDistinct (xs ++ b ∷ ys) → AllByRecursion (λ c. c ≢ b) xs
-distinct-front b [] ys h = tt
-distinct-front b (x ∷ xs) ys h =
-    ((λ e. (all-right (λ q. q ≢ x) xs (b ∷ ys) h.0).0 (sym e)), distinct-front b xs ys h.1)
 
 map-same : {X Y : Type 0} (f g : X → Y) (xs : List X) → ((x : X) → f x ≡ g x) → map f xs ≡ map g xs
 map-same f g [] h = refl

@@ -24,14 +24,7 @@ use Rattle.lower_builder.proofs.Joined.{counted, lined, operand-none, operand-no
 use Rattle.lower_expressions.specs.Kinds.{number_type}
 use Rattle.lower_expressions.specs.Rows.{applied_part}
 use Rattle.lower_expressions.proofs.Known.{local-of}
-
--- lines that take no block, and lines behind them
-pub next-to : {s t u : Built} {n : ℕ} {xs : List Line} (ys : ℕ → List Line) → Adds s t 0 xs → Adds t u n (ys t.next)
-    → Adds s u n (xs ++ ys s.next)
-next-to {s} {t} {u} {n} {xs} ys h k =
-    let none : s.next + 0 ≡ s.next = omega arith in
-    let count : 0 + n ≡ n = omega arith in
-    counted count (lined (ap (λ i. xs ++ ys i) none) (two ys h k))
+pub use Rattle.lower_expressions.proofs.Chained.{next-to}
 
 grouped : (n k l m : ℕ) (X Y : List Line) (A S : ℕ → List Line)
     → (X ++ Y) ++ (A (n + (k + l)) ++ S (n + (k + l) + m)) ≡ (X ++ (Y ++ A (n + k + l))) ++ S (n + (k + l + m))

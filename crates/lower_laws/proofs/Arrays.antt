@@ -58,6 +58,7 @@ use Rattle.std.proofs.lemmas.Option.{same_Some}
 use Rattle.pcc_base.proofs.Lists.{element-at}
 use Rattle.lower_laws.specs.Laws.{ArrayLowers, ElementsLower}
 use Rattle.lower_laws.specs.Ways.{Behind, From}
+pub use Rattle.lower_laws.proofs.Accesses.{stored-is as stored-same}
 
 -- ---- lists
 
@@ -79,11 +80,6 @@ pub assigned-integer : (t : IntegerType) (of : ValueType) → CanAssign (Integer
 assigned-integer t Void h = absurd h
 assigned-integer t (Integer u) h = (u, refl)
 assigned-integer t (Pointer u) h = absurd h
-
-pub stored-same : (t : IntegerType) (n : ℤ) → stored (bits_of t) n ≡ converted t n
-stored-same Char n = refl
-stored-same Short n = refl
-stored-same Int n = refl
 
 -- ---- an array of the youngest call
 

@@ -51,7 +51,7 @@ zip-long R (w ∷ xs) [] k x h e = absurd h
 zip-long R (w ∷ xs) (z ∷ ys) zero x h e = omega arith
 zip-long R (w ∷ xs) (z ∷ ys) (suc k) x h e = let l = zip-long R xs ys k x h.1 e in omega (arith, l)
 
-index-set : {A : Type 0} (ys : List A) (k : ℕ) (x d : A) → k < length ys → slice_index_or (slice_set ys k x) k d ≡ x
+pub index-set : {A : Type 0} (ys : List A) (k : ℕ) (x d : A) → k < length ys → slice_index_or (slice_set ys k x) k d ≡ x
 index-set [] k x d h = absurd (omega (arith, h))
 index-set (y ∷ ys) zero x d h = refl
 index-set (y ∷ ys) (suc k) x d h = index-set ys k x d (omega (arith, h))

@@ -283,7 +283,7 @@ Applies S of operator p q =
     → Fits S (S.function ∷ older) before (applied (context_of S) block level wanted operator p q x y) level wanted of z
     i (computed (binary_value operator v v') z)
 
-below : (level i j top : ℕ) → level + max i (suc j) ≤ top → level < top
+pub below : (level i j top : ℕ) → level + max i (suc j) ≤ top → level < top
 below level i j top room = let m = le-max_right i (suc j) in omega (arith, room, m)
 
 applies-lower : (S : Site) (of : ValueType) (operator : BinaryOp) (a b : Part)

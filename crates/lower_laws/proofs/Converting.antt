@@ -33,7 +33,7 @@ use Rattle.lower_laws.proofs.Binary.{Fits, compound-lowers, turns-fall, works-fo
 use Rattle.lower_laws.proofs.Going.{stand-back, stand-front}
 use Rattle.lower_laws.proofs.Levels.{levels-one, levels-below}
 use Rattle.lower_laws.proofs.Made.{some-and, variable-there}
-use Rattle.lower_laws.proofs.Operands.{NumberStands, number-operand}
+use Rattle.lower_laws.proofs.Operands.{NumberStands, number-operand, integer-not-void}
 use Rattle.lower_laws.proofs.Pairs.{Falls, goes-both}
 use Rattle.lower_laws.proofs.Reading.{copied-goes}
 use Rattle.lower_laws.proofs.Unary.{follows-behind}
@@ -142,9 +142,6 @@ goes-into-any t u (Integer Char) h = absurd h
 goes-into-any t u (Integer Short) h = tt
 goes-into-any t u (Integer Int) h = tt
 goes-into-any t u (Pointer w) h = absurd h
-
-integer-not-void : (u : IntegerType) → Integer u ≢ Void
-integer-not-void u e = cc
 
 pub may-any : (S : Site) (wanted : Wanted) (t u : IntegerType) → MayWant S wanted (Integer t)
     → MayWant S wanted (Integer u)

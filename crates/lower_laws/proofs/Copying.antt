@@ -44,7 +44,7 @@ use Rattle.lower_laws.proofs.Texts.{scratch-count, scratch-from, scratch-number}
 
 -- ---- the whole
 
-get-mapped : {X Y : Type 0} (f : X → Y) (xs : List X) (k : ℕ) (x : X) → slice_get xs k ≡ Some x
+pub get-mapped : {X Y : Type 0} (f : X → Y) (xs : List X) (k : ℕ) (x : X) → slice_get xs k ≡ Some x
     → slice_get (map f xs) k ≡ Some (f x)
 get-mapped f [] k x e = absurd (cc)
 get-mapped f (y ∷ xs) zero x e = ap (λ (z : _). Some (f z)) (same y x e)

@@ -219,7 +219,7 @@ scalars-lower S site n local levels l a run own e scalar low lowers keeping =
     plain a n h = omega (arith, h)
 
 -- the last of two values in a local is there
-set-twice : {X : Type 0} (xs : List X) (k : ℕ) (x y : X) → slice_set (slice_set xs k x) k y ≡ slice_set xs k y
+pub set-twice : {X : Type 0} (xs : List X) (k : ℕ) (x y : X) → slice_set (slice_set xs k x) k y ≡ slice_set xs k y
 set-twice [] k x y = refl
 set-twice (z ∷ xs) zero x y = refl
 set-twice (z ∷ xs) (suc k) x y = ap (λ (ys : List _). z ∷ ys) (set-twice xs k x y)

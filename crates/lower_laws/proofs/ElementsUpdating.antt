@@ -51,6 +51,7 @@ use Rattle.lower_laws.specs.PlacesLaws.{AddressFollows, IsSettled, KeepsTurns}
 use Rattle.lower_laws.proofs.ElementsStoring.{Finishes, IsPlainSpot, computed-fits, old-apart}
 use Rattle.lower_laws.specs.ElementsLaws.{ElementsAreStepped, ElementsAreUpdated, IsClear, IsPlain, stepping}
 use Rattle.lower_laws.specs.ElementsLaws.{updating}
+use Rattle.lower_laws.proofs.Both.{below as deep}
 
 -- ---- where the address stands
 
@@ -318,9 +319,6 @@ found-same : (t : IntegerType) (operator : BinaryOp) (run' : source.State → Ev
     old)))
 found-same t operator run' (Gives found u) = old-same t operator found run' (load found u)
 found-same t operator run' (Ends end u) = refl
-
-deep : (level i j top : ℕ) → level + max i (suc j) ≤ top → level < top
-deep level i j top h = let m = le-max_right i (suc j) in omega (arith, h, m)
 
 pub elements-updated : ElementsAreUpdated
 elements-updated S site t operator to run reaches clear falls a run' u lowers of some =

@@ -102,7 +102,7 @@ none-pass S = record {
   simple = λ e older s g b. refl;
 }
 
-alone-state : (s t : source.State) (values : List Held) (r : Evaluated (List Held)) → AllAlone s r
+pub alone-state : (s t : source.State) (values : List Held) (r : Evaluated (List Held)) → AllAlone s r
     → r ≡ Gives values t → t ≡ s
 alone-state s t values (Gives others u) alone e = sym (cc) ∙ alone
 alone-state s t values (Ends end u) alone e = absurd alone

@@ -71,7 +71,7 @@ becomes-integer t Void h = absurd h
 becomes-integer t (Integer u) h = (u, refl)
 becomes-integer t (Pointer u) h = absurd h
 
-updates-number : (operator : BinaryOp) (of from : ValueType) → CanUpdate operator of from → (u : IntegerType)
+pub updates-number : (operator : BinaryOp) (of from : ValueType) → CanUpdate operator of from → (u : IntegerType)
     × (from ≡ Integer u)
 updates-number operator (Integer t) (Integer u) h = (u, refl)
 updates-number operator (Pointer t) (Integer u) h = (u, refl)
@@ -81,7 +81,7 @@ updates-number operator (Integer t) (Pointer u) h = absurd h
 updates-number operator (Pointer t) Void h = absurd h
 updates-number operator (Pointer t) (Pointer u) h = absurd h
 
-update-gives : (operator : BinaryOp) (of from : ValueType) → CanUpdate operator of from
+pub update-gives : (operator : BinaryOp) (of from : ValueType) → CanUpdate operator of from
     → BinaryGives operator of from (result_type of)
 update-gives operator (Integer t) (Integer u) h = refl
 update-gives Add (Pointer t) (Integer u) h = refl
@@ -106,12 +106,12 @@ update-gives operator (Integer t) (Pointer u) h = absurd h
 update-gives operator (Pointer t) Void h = absurd h
 update-gives operator (Pointer t) (Pointer u) h = absurd h
 
-result-becomes : (of : ValueType) → Becomes of (result_type of)
+pub result-becomes : (of : ValueType) → Becomes of (result_type of)
 result-becomes Void = tt
 result-becomes (Integer t) = tt
 result-becomes (Pointer t) = tt
 
-step-updates : (operator : StepOp) (of : ValueType) → IsScalar of → CanUpdate (step_op operator) of int
+pub step-updates : (operator : StepOp) (of : ValueType) → IsScalar of → CanUpdate (step_op operator) of int
 step-updates operator Void h = absurd h
 step-updates PreIncrement (Integer t) h = tt
 step-updates PreDecrement (Integer t) h = tt

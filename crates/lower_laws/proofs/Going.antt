@@ -11,7 +11,7 @@ abbrev pub Goes : Site → ℕ → graph.State → ℕ → graph.State → List 
 Goes S turns g left h visits = (outcome : Outcome) → Comes S left h outcome
     → Comes S turns g (after_visits visits outcome)
 
-visits-append : (us vs : List Visit) (o : Outcome) → after_visits us (after_visits vs o) ≡ after_visits (us ++ vs) o
+pub visits-append : (us vs : List Visit) (o : Outcome) → after_visits us (after_visits vs o) ≡ after_visits (us ++ vs) o
 visits-append us vs o = ap (λ (ws : List Visit). record {
   visits = ws;
   taken = o.taken;

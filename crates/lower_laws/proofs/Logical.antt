@@ -164,7 +164,7 @@ first-room level i j top h = let m = le-max_left i j in omega (arith, h, m)
 second-room : (level i j top : ℕ) → level + max i j ≤ top → level + j ≤ top
 second-room level i j top h = let m = le-max_right i j in omega (arith, h, m)
 
-both-fall : (i j k : ℕ) → i ≤ j → j ≤ k → i ≤ k
+pub both-fall : (i j k : ℕ) → i ≤ j → j ≤ k → i ≤ k
 both-fall i j k p q = omega (arith, p, q)
 
 -- ---- `&&`

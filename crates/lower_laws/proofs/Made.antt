@@ -39,7 +39,7 @@ use Rattle.lower_laws.proofs.Widths.{get-before, local-width, temporary-width}
 -- ---- variables that are there
 
 -- the youngest call of the graphs has all variables of its function
-calls-length : (p : Program) (f : Function) (older : List Function) (calls : List source.Activation)
+pub calls-length : (p : Program) (f : Function) (older : List Function) (calls : List source.Activation)
     (b : graph.Activation) (bs : List graph.Activation) → ShowCalls p (f ∷ older) calls (b ∷ bs)
     → length b.variables ≡ length (variable_widths f)
 calls-length p f older [] b bs h = absurd h

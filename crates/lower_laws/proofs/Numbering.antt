@@ -11,13 +11,9 @@ use Rattle.c_tree.specs.Program.{Statement, Statements, Done, Next}
 use Rattle.c_tree.specs.WellTyped.{first_numbers, functions_numbers, item_number, statement_numbers, statements_numbers}
 use Rattle.lower_lines.specs.Shown.{locals_at, numbers_in, numbers_in_first, numbers_of}
 use Rattle.lower_laws.specs.CallsLaws.{StatementsAreOwn}
+use Rattle.lower_lines.proofs.Marks.{numbers-first as first-many}
 
 -- ---- how many numbers a body has
-
-first-many : (first : First) → length (first_numbers first) ≡ numbers_in_first first
-first-many Nothing = refl
-first-many (Evaluated e) = refl
-first-many (Declared items) = length-map items item_number
 
 both-many : (xs ys : List ℕ) (m n : ℕ) → length xs ≡ m → length ys ≡ n → length (xs ++ ys) ≡ m + n
 both-many xs ys m n e f = length-append xs ys ∙ ap (λ (k : ℕ). k + length ys) e ∙ ap (λ (k : ℕ). m + k) f

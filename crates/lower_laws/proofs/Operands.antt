@@ -68,7 +68,7 @@ local-stands S older before level k l u s g e of shows =
       λ o r. subst (λ (ls : List Line). Comes S s.turns (behind ls g) o) (append-nil before) r,
     )
 
-integer-not-void : (u : IntegerType) → Integer u ≢ Void
+pub integer-not-void : (u : IntegerType) → Integer u ≢ Void
 integer-not-void u e = cc
 
 -- either way

@@ -23,7 +23,7 @@ use Rattle.lower_lines.specs.Parts.{Part, if_stays, operand, standing}
 use Rattle.lower_lines.specs.Relation.{HoldsAt, Keeps, Shows}
 use Rattle.lower_lines.specs.Shown.{first_variable, type_widths}
 use Rattle.lower_lines.specs.Variables.{Spot, levels_of, local_spot, local_variables, own, typed_spot}
-use Rattle.lower_lines.proofs.Changes.{kept-below, kept-twice, locals-held}
+use Rattle.lower_lines.proofs.Changes.{kept-below, kept-twice, locals-held, one-variable as some-width}
 use Rattle.lower_lines.proofs.Locals.{local-within}
 use Rattle.lower_laws.proofs.Atoms.{held-number}
 use Rattle.lower_laws.proofs.Going.{Goes, goes-end, goes-then, stand-back, stand-front}
@@ -50,11 +50,6 @@ goes-both S turns left last g h i before xs ys us vs first second =
 abbrev pub IsPlaced : Site → ℕ → ℕ → Type 0
 IsPlaced S level v = (v ≡ (own (context_of S) level).number) ⊎ (v < local_variables S.function)
 
-some-width : (t : IntegerType) → length (type_widths (Integer t)) ≡ 1
-some-width Char = refl
-some-width Short = refl
-some-width Int = refl
-
 pub local-below : (S : Site) (k : ℕ) (l : Local) (u : IntegerType) → slice_get S.function.locals k ≡ Some l
     → l.of ≡ Integer u → (local_spot (context_of S) k).number < local_variables S.function
 local-below S k l u e of =
@@ -76,7 +71,7 @@ standing-placed S a run u (Some p) from lowers of level =
     inr (subst (λ (q : Spot). q.number < local_variables S.function) (sym is) (local-below S k l u e (same.0 ∙ of)))
 
 -- what stands there, where nothing is stored after it or anything is
-from-stays : (stays : Bool) (spot : Option Spot) (p : Spot) → if_stays stays spot ≡ Some p → spot ≡ Some p
+pub from-stays : (stays : Bool) (spot : Option Spot) (p : Spot) → if_stays stays spot ≡ Some p → spot ≡ Some p
 from-stays true spot p e = e
 from-stays false spot p e = absurd (cc)
 

@@ -33,6 +33,8 @@ use Rattle.lower_lines.proofs.Locals.{get-set_same}
 use Rattle.lower_lines.proofs.Steps.{one-step, param-step}
 use Rattle.lower_laws.specs.CallsLaws.{ParametersAreTaken, Takes, WordsAreRead, all_words_passed, with_parameters}
 use Rattle.lower_laws.specs.CallsLaws.{words_passed}
+pub use Rattle.lower_laws.proofs.Going.{stand-back, stand-front}
+use Rattle.lower_laws.proofs.Made.{calls-length as calls-many}
 
 -- ---- argument words are read
 
@@ -60,13 +62,6 @@ words-read g (of ∷ ofs) words (x ∷ xs) (spot, others, e, here, more) =
 
 -- ---- where lines stand
 
-pub stand-front : (S : Site) (before xs ys : List Line) → Stand S before (xs ++ ys) → Stand S before xs
-stand-front S before xs ys (rest, e) = (ys ++ rest, e ∙ ap (λ (ls : List Line). before ++ ls) (append_assoc xs ys rest))
-
-pub stand-back : (S : Site) (before xs ys : List Line) → Stand S before (xs ++ ys) → Stand S (before ++ xs) ys
-stand-back S before xs ys (rest, e) = (
-  rest,
-  e ∙ ap (λ (ls : List Line). before ++ ls) (append_assoc xs ys rest) ∙ sym (append_assoc before xs (ys ++ rest)),
 )
 
 -- what comes behind lines one after another
@@ -87,12 +82,6 @@ get-next (z ∷ front) x y xs = get-next front x y xs
 levels-many : (n : ℕ) → length (levels_widths n) ≡ n * 5
 levels-many zero = refl
 levels-many (suc n) = let h = levels-many n in omega (arith, h)
-
-calls-many : (p : Program) (f : Function) (older : List Function) (calls : List source.Activation)
-    (b : graph.Activation) (bs : List graph.Activation) → ShowCalls p (f ∷ older) calls (b ∷ bs)
-    → length b.variables ≡ length (variable_widths f)
-calls-many p f older [] b bs h = absurd h
-calls-many p f older (a ∷ calls) b bs h = h.0.as_many
 
 module _ (S : Site) (site : IsSite S) (older : List Function) where
   -- the temporary for a number on its way to a parameter

@@ -254,6 +254,7 @@ module _ (widths : List Width) (arrays : List (ℕ × ℕ)) (count : ℕ) (lines
       no_target : (j : Op) (c a x : ℕ) → fixed j ≡ Some (c, a) → IsIn x (targets j) → ⊥
       no_target (op.Jump y) c a x e is = none-some (c, a) e
       no_target (op.Branch how u v y z) c a x e is = none-some (c, a) e
+      no_target (op.Branchu how u v y z) c a x e is = none-some (c, a) e
       no_target _ c a x e is = is
 
       both : (c a : ℕ) → fixed i ≡ Some (c, a) → (IsLiveAfter flow c p → ⊥) × (c ≢ a)

@@ -41,6 +41,7 @@ use Rattle.lower_laws.proofs.PlacesReading.{targets-follow}
 use Rattle.lower_laws.proofs.Writing.{store-fits}
 use Rattle.lower_laws.specs.PlacesLaws.{AddressFollows, ElementsAreAssigned, IsSettled, KeepsTurns}
 use Rattle.lower_laws.specs.PlacesLaws.{TargetsAreAssigned, assigned}
+use Rattle.lower_laws.proofs.Logical.{both-fall as fewer}
 
 -- ---- the variables of locals hold what the source has
 
@@ -161,9 +162,6 @@ address-stays S older to a run' true same settled lowers level t array index u w
     )
 
 -- ---- assignments to elements
-
-fewer : (i j k : ℕ) → i ≤ j → j ≤ k → i ≤ k
-fewer i j k a b = omega (arith, a, b)
 
 module _ (S : Site) (site : IsSite S) (t : IntegerType) (to : Addressed) (run : source.State → Evaluated Found)
     (reaches : AddressFollows S t to run) (settled : IsSettled S to) (falls : KeepsTurns run) (one : 1 ≤ to.levels)

@@ -37,6 +37,7 @@ use Rattle.lower_laws.proofs.Made.{number-made, some-and}
 use Rattle.lower_laws.proofs.Unary.{follows-behind}
 use Rattle.lower_laws.proofs.Accesses.{element-loads, load-trapped}
 use Rattle.lower_laws.specs.PlacesLaws.{ElementsAreRead, ObjectsAreRead, TargetsAreRead, TargetsFollow}
+pub use Rattle.lower_laws.proofs.Pairs.{from-stays as some-if}
 
 -- a trap of the graphs is one of the source
 pub trap-ends : (S : Site) (active : List Function) (u : source.State) (h : graph.State) (before : List Line)
@@ -193,10 +194,6 @@ standing-pointer S older a run t (Some p) from lowers of block level before s g 
     (local-pointer S older before level t (typed_spot (Pointer t) v) s g (held s k) b.shows
     (subst (λ (m : ValueType). HoldsAt g.current.variables m (typed_spot m v) (held s k)) kind at.0)
     (subst (λ (m : ValueType). IsOf S.program (S.function ∷ older) m (held s k)) kind at.1)))
-
-pub some-if : (stays : Bool) (spot : Option Spot) (p : Spot) → if_stays stays spot ≡ Some p → spot ≡ Some p
-some-if true spot p e = e
-some-if false spot p e = absurd (cc)
 
 pub targets-follow : TargetsFollow
 targets-follow S site e t lowers of active stays block level before s g stands room begins =

@@ -17,27 +17,12 @@ use Rattle.lower_lines.specs.Parts.{Part}
 use Rattle.lower_laws.proofs.Binary.{after_both, turns-fall}
 use Rattle.lower_laws.proofs.Levels.{max-behind}
 use Rattle.lower_laws.proofs.Pairs.{Falls}
-use Rattle.lower_laws.proofs.Stepping.{lowers-same}
+use Rattle.lower_laws.proofs.Stepping.{lowers-same, computed-falls, operator-falls, then-then}
 use Rattle.lower_laws.proofs.Both.{integer-not-void, operator-lowers, pointer-not-void}
 use Rattle.lower_laws.proofs.Moving.{pointers-read}
 use Rattle.lower_laws.proofs.Storing.{assigned-lowers, assigning}
 use Rattle.lower_laws.proofs.Summing.{moves-apply}
 use Rattle.lower_laws.specs.PointersLaws.{PointersAreMoved}
-
-then-then : {A B C : Type 0} (r : Evaluated A) (f : A → source.State → Evaluated B) (g : B → source.State → Evaluated C)
-    → and_then (and_then r f) g ≡ and_then r (λ v t. and_then (f v t) g)
-then-then (Gives v t) f g = refl
-then-then (Ends end t) f g = refl
-
-computed-falls : (c : Computed) (t : source.State) (turns : ℕ) → t.turns ≤ turns
-    → (state_of (computed c t)).turns ≤ turns
-computed-falls (Computes v) t turns h = h
-computed-falls (Traps trap) t turns h = h
-
-operator-falls : (operator : BinaryOp) (x : Held) (r : Evaluated Held) (turns : ℕ) → (state_of r).turns ≤ turns
-    → (state_of (and_then r (λ y u. computed (binary_value operator x y) u))).turns ≤ turns
-operator-falls operator x (Gives y u) turns h = computed-falls (binary_value operator x y) u turns h
-operator-falls operator x (Ends end u) turns h = h
 
 -- what an assignment with an operator does
 abbrev pub updating : IntegerType → BinaryOp → ℕ → (source.State → Evaluated Held) → source.State → Evaluated Held

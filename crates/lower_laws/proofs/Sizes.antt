@@ -100,7 +100,7 @@ numbers-small (g ∷ fs) (suc k) f e =
 
 -- ---- elements
 
-count-small : (t : IntegerType) (n : ℕ) → n ≤ (n * bytes_of t + 3) / 4 * 4
+pub count-small : (t : IntegerType) (n : ℕ) → n ≤ (n * bytes_of t + 3) / 4 * 4
 count-small Char n = omega arith
 count-small Short n = omega arith
 count-small Int n = omega arith

@@ -52,6 +52,8 @@ use Rattle.lower_laws.proofs.Pieces.{Fit, blocks_in, byte-holds, context_in, fit
 use Rattle.lower_laws.proofs.Pieces.{small, temp}
 use Rattle.lower_laws.proofs.FitsPlaces.{assigned-local}
 use Rattle.lower_laws.proofs.FitsWalk.{expression-fits}
+use Rattle.lower_laws.proofs.Switches.{or-true, cases-length, has-own, labels-below}
+use Rattle.lower_lines.proofs.Switches.{comparing-same}
 
 -- ---- labels
 
@@ -63,47 +65,6 @@ labels-grow labels m (suc n) =
     let h = labels-grow labels m n in
     let e : suc (m + n) ≡ m + suc n = omega arith in
     subst (λ (k : ℕ). labelled_before labels m ≤ labelled_before labels k) e (omega (arith, h))
-
-labels-below : (labels : List Label) (place n : ℕ) → has_label labels place ≡ true → place < n
-    → labelled_before labels place < labelled_before labels n
-labels-below labels place zero h below = absurd (omega (arith, below))
-labels-below labels place n h below =
-    let e : suc place + (n - suc place) ≡ n = omega (arith, below) in
-    let grows = labels-grow labels (suc place) (n - suc place) in
-    let here : labelled_before labels (suc place) ≡ labelled_before labels place + 1 =
-    ap (λ (t : Bool). labelled_before labels place + (if t then 1 else 0)) h in
-    let there = subst (λ (k : ℕ). labelled_before labels (suc place) ≤ labelled_before labels k) e grows in
-    omega (arith, here, there)
-
--- cases are as many, wherever their blocks begin
-cases-length : (first : ℕ) (all labels : List Label) → length (cases_of first all labels)
-    ≡ length (cases_of 0 all labels)
-cases-length first all [] = refl
-cases-length first all (label ∷ labels) = by label.value (cases-length first all labels)
-  where
-    by : (v : Option ℤ) → length (cases_of first all labels) ≡ length (cases_of 0 all labels)
-        → length (case_of v (first + labelled_before all label.before) ++ cases_of first all labels)
-        ≡ length (case_of v (0 + labelled_before all label.before) ++ cases_of 0 all labels)
-    by None e = e
-    by (Some n) e = ap suc e
-
-comparing-same : (xs ys : List Case) → length xs ≡ length ys → comparing_blocks xs ≡ comparing_blocks ys
-comparing-same [] [] e = refl
-comparing-same [] (y ∷ ys) e = absurd (omega (arith, e))
-comparing-same (x ∷ xs) [] e = absurd (omega (arith, e))
-comparing-same (x ∷ []) (y ∷ []) e = refl
-comparing-same (x ∷ []) (y ∷ y' ∷ ys) e = absurd (omega (arith, e))
-comparing-same (x ∷ x' ∷ xs) (y ∷ []) e = absurd (omega (arith, e))
-comparing-same (x ∷ x' ∷ xs) (y ∷ y' ∷ ys) e = ap suc (comparing-same (x' ∷ xs) (y' ∷ ys) (omega (arith, e)))
-
--- a label's statement has one
-has-own : (labels : List Label) (label : Label) → has_label (label ∷ labels) label.before ≡ true
-has-own labels label = ap (λ (t : Bool). t || has_label labels label.before)
-    (eq-eqb label.before label.before refl)
-
-or-true : (a b : Bool) → b ≡ true → (a || b) ≡ true
-or-true true b e = refl
-or-true false b e = e
 
 module _ (R : Room) (functions : AllByRecursion (IsTypedFunction R.program) R.program.functions)
     (typed : IsTypedFunction R.program R.function)

@@ -33,17 +33,7 @@ use Rattle.lower_laws.proofs.Parts.{settled-then}
 use Rattle.lower_laws.proofs.Sets.{F, Goes, agrees-at, converted-flows, delivered-flows, goes-more}
 use Rattle.lower_laws.proofs.Sets.{last-less, one-in, reached, tested-size, tested_sets, two-in, writes}
 use Rattle.lower_laws.proofs.Updates.{PlaceLive, old-good, stores, update-part}
-
-step-updates : (operator : StepOp) (of : ValueType) → IsScalar of → CanUpdate (step_op operator) of int
-step-updates operator Void h = absurd h
-step-updates PreIncrement (Integer t) h = tt
-step-updates PreDecrement (Integer t) h = tt
-step-updates PostIncrement (Integer t) h = tt
-step-updates PostDecrement (Integer t) h = tt
-step-updates PreIncrement (Pointer t) h = tt
-step-updates PreDecrement (Pointer t) h = tt
-step-updates PostIncrement (Pointer t) h = tt
-step-updates PostDecrement (Pointer t) h = tt
+use Rattle.lower_laws.proofs.FitsPlaces.{step-updates}
 
 module _ (c : Context) (D : List ℕ) (low-known : (v : ℕ) → IsIn v D → v < local_variables c.function) where
   abbrev L : ℕ

@@ -25,11 +25,12 @@ use Rattle.lower_laws.proofs.Sets.{F, block-is, ends, flows-then, marks, starts,
 use Rattle.lower_laws.proofs.LiveConditions.{ready}
 use Rattle.lower_laws.proofs.Runs.{Chain, ExitsTo, LabelsAt, LiveRun, Onward, agrees-split, exit-flows, exit-size}
 use Rattle.lower_laws.proofs.Runs.{exit-within, exit_sets, sequence-live}
+use Rattle.lower_lines.proofs.Switches.{comparing-same}
 
 -- ---- places of labels
 
 -- a statement's place among those that have labels is below their number
-labels-below : (labels : List Label) (place n : ℕ) → has_label labels place ≡ true → place < n
+pub labels-below : (labels : List Label) (place n : ℕ) → has_label labels place ≡ true → place < n
     → labelled_before labels place < labelled_before labels n
 labels-below labels place zero h low = absurd (omega (arith, low))
 labels-below labels place (suc n) h low =
@@ -45,7 +46,7 @@ labels-below labels place (suc n) h low =
     ]
 
 -- cases are as many, wherever their blocks begin
-cases-length : (first : ℕ) (all labels : List Label) → length (cases_of first all labels)
+pub cases-length : (first : ℕ) (all labels : List Label) → length (cases_of first all labels)
     ≡ length (cases_of 0 all labels)
 cases-length first all [] = refl
 cases-length first all (label ∷ labels) = by label.value (cases-length first all labels)
@@ -56,21 +57,12 @@ cases-length first all (label ∷ labels) = by label.value (cases-length first a
     by None e = e
     by (Some n) e = ap suc e
 
-comparing-same : (xs ys : List Case) → length xs ≡ length ys → comparing_blocks xs ≡ comparing_blocks ys
-comparing-same [] [] e = refl
-comparing-same [] (y ∷ ys) e = absurd (omega (arith, e))
-comparing-same (x ∷ xs) [] e = absurd (omega (arith, e))
-comparing-same (x ∷ []) (y ∷ []) e = refl
-comparing-same (x ∷ []) (y ∷ y' ∷ ys) e = absurd (omega (arith, e))
-comparing-same (x ∷ x' ∷ xs) (y ∷ []) e = absurd (omega (arith, e))
-comparing-same (x ∷ x' ∷ xs) (y ∷ y' ∷ ys) e = ap suc (comparing-same (x' ∷ xs) (y' ∷ ys) (omega (arith, e)))
-
 -- a label's statement has one
-has-own : (labels : List Label) (label : Label) → has_label (label ∷ labels) label.before ≡ true
+pub has-own : (labels : List Label) (label : Label) → has_label (label ∷ labels) label.before ≡ true
 has-own labels label = ap (λ (t : Bool). t || has_label labels label.before)
     (eq-eqb label.before label.before refl)
 
-or-true : (a b : Bool) → b ≡ true → (a || b) ≡ true
+pub or-true : (a b : Bool) → b ≡ true → (a || b) ≡ true
 or-true true b e = refl
 or-true false b e = e
 

@@ -33,16 +33,13 @@ use Rattle.lower_laws.proofs.Visits.{visited-begins}
 use Rattle.lower_laws.proofs.Ways.{from-both, from-goes, from-here, from-then, next-begins, to-run}
 use Rattle.lower_laws.specs.Laws.{SwitchesLower}
 use Rattle.lower_laws.specs.Ways.{From, Keeping, LeftBy, LowersFrom}
+use Rattle.lower_laws.proofs.Switches.{or-true as either-true}
 
 -- ---- labels
 
 -- a label's place is one of a statement, and has a label
 abbrev pub IsLabelled : List Label → ℕ → ℕ → Type 0
 IsLabelled labels count place = (place < count) × (has_label labels place ≡ true)
-
-either-true : (a b : Bool) → b ≡ true → (a || b) ≡ true
-either-true true b e = refl
-either-true false b e = e
 
 places-labelled : (labels ls : List Label) (count : ℕ)
     → ((place : ℕ) → has_label ls place ≡ true → has_label labels place ≡ true)

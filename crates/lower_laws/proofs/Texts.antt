@@ -39,6 +39,8 @@ use Rattle.lower_laws.proofs.Working.{comparison-is}
 use Rattle.lower_laws.proofs.Arrays.{lists-there, named-of}
 use Rattle.lower_laws.proofs.Arrays.{stored-same}
 use Rattle.lower_laws.proofs.Onward.{start-goes}
+use Rattle.lower_laws.proofs.Assigning.{index-set}
+use Rattle.lower_laws.proofs.Declared.{set-twice}
 
 -- ---- a text's elements, and zeros after them
 
@@ -83,11 +85,6 @@ get-fits P (y ∷ xs) zero x h e = subst P (same y x e) (h 0 (pos 0) (omega arit
 get-fits P (y ∷ xs) (suc k) x h e = get-fits P xs k x (λ j d low. h (suc j) d (omega (arith, low))) e
 
 -- ---- an array that gets elements twice
-
-set-twice : {X : Type 0} (xs : List X) (k : ℕ) (x y : X) → slice_set (slice_set xs k x) k y ≡ slice_set xs k y
-set-twice [] k x y = refl
-set-twice (z ∷ xs) zero x y = refl
-set-twice (z ∷ xs) (suc k) x y = ap (λ (ys : List _). z ∷ ys) (set-twice xs k x y)
 
 as-long : (k depth : ℕ) (es : List ℤ) (calls : List source.Activation)
     → length (with_array_in k depth es calls) ≡ length calls
@@ -217,11 +214,6 @@ five-behind xs a b c d e =
     ∙ append_assoc (xs ++ a ∷ []) (b ∷ []) (c ∷ d ∷ e ∷ []) ∙ append_assoc xs (a ∷ []) (b ∷ c ∷ d ∷ e ∷ [])
 
 -- ---- an array of the youngest call
-
-index-set : {A : Type 0} (ys : List A) (k : ℕ) (x d : A) → k < length ys → slice_index_or (slice_set ys k x) k d ≡ x
-index-set [] k x d h = absurd (omega (arith, h))
-index-set (y ∷ ys) zero x d h = refl
-index-set (y ∷ ys) (suc k) x d h = index-set ys k x d (omega (arith, h))
 
 -- it has the elements that it got
 pub named-set : (S : Site) (older : List Function) (k : ℕ) (a : LocalArray) → slice_get S.function.arrays k ≡ Some a

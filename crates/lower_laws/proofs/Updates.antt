@@ -34,46 +34,7 @@ use Rattle.lower_laws.proofs.Parts.{number-in, object-part, operand-held, reache
 use Rattle.lower_laws.proofs.Parts.{settled-then}
 use Rattle.lower_laws.proofs.Sets.{F, converted-flows, flows-then, goes-more}
 use Rattle.lower_laws.proofs.Sets.{keeps, last-less, reached, two-in, writes}
-
-updates-number : (operator : BinaryOp) (of from : ValueType) → CanUpdate operator of from → (u : IntegerType)
-    × (from ≡ Integer u)
-updates-number operator (Integer t) (Integer u) h = (u, refl)
-updates-number operator (Pointer t) (Integer u) h = (u, refl)
-updates-number operator Void from h = absurd h
-updates-number operator (Integer t) Void h = absurd h
-updates-number operator (Integer t) (Pointer u) h = absurd h
-updates-number operator (Pointer t) Void h = absurd h
-updates-number operator (Pointer t) (Pointer u) h = absurd h
-
-update-gives : (operator : BinaryOp) (of from : ValueType) → CanUpdate operator of from
-    → BinaryGives operator of from (result_type of)
-update-gives operator (Integer t) (Integer u) h = refl
-update-gives Add (Pointer t) (Integer u) h = refl
-update-gives Subtract (Pointer t) (Integer u) h = refl
-update-gives Multiply (Pointer t) (Integer u) h = absurd h
-update-gives Divide (Pointer t) (Integer u) h = absurd h
-update-gives Remainder (Pointer t) (Integer u) h = absurd h
-update-gives ShiftLeft (Pointer t) (Integer u) h = absurd h
-update-gives ShiftRight (Pointer t) (Integer u) h = absurd h
-update-gives Less (Pointer t) (Integer u) h = absurd h
-update-gives Greater (Pointer t) (Integer u) h = absurd h
-update-gives LessOrEqual (Pointer t) (Integer u) h = absurd h
-update-gives GreaterOrEqual (Pointer t) (Integer u) h = absurd h
-update-gives Equal (Pointer t) (Integer u) h = absurd h
-update-gives NotEqual (Pointer t) (Integer u) h = absurd h
-update-gives BitAnd (Pointer t) (Integer u) h = absurd h
-update-gives BitXor (Pointer t) (Integer u) h = absurd h
-update-gives BitOr (Pointer t) (Integer u) h = absurd h
-update-gives operator Void from h = absurd h
-update-gives operator (Integer t) Void h = absurd h
-update-gives operator (Integer t) (Pointer u) h = absurd h
-update-gives operator (Pointer t) Void h = absurd h
-update-gives operator (Pointer t) (Pointer u) h = absurd h
-
-result-becomes : (of : ValueType) → Becomes of (result_type of)
-result-becomes Void = tt
-result-becomes (Integer t) = tt
-result-becomes (Pointer t) = tt
+use Rattle.lower_laws.proofs.FitsPlaces.{result-becomes, updates-number, update-gives}
 
 module _ (c : Context) (D : List ℕ) (low-known : (v : ℕ) → IsIn v D → v < local_variables c.function) where
   abbrev L : ℕ

@@ -32,7 +32,7 @@ use Rattle.lower_laws.proofs.Converting.{begins-again, lowers-fit}
 use Rattle.lower_laws.proofs.Going.{stand-back, stand-front}
 use Rattle.lower_laws.proofs.Levels.{max-behind, first-room, second-room}
 use Rattle.lower_laws.proofs.Pairs.{own-stays}
-use Rattle.lower_laws.proofs.Stepping.{delivered-fits, lowers-same}
+use Rattle.lower_laws.proofs.Stepping.{delivered-fits, lowers-same, then-then}
 use Rattle.lower_laws.proofs.Unary.{follows-behind}
 use Rattle.lower_laws.proofs.Working.{apart-scratch}
 use Rattle.lower_laws.proofs.PlacesReading.{object-read, objects-read}
@@ -40,11 +40,6 @@ use Rattle.lower_laws.proofs.Writing.{object-assigned}
 use Rattle.lower_laws.specs.PlacesLaws.{ObjectsAreStepped, ObjectsAreUpdated}
 
 -- ---- evaluations one after another
-
-then-then : {A B C : Type 0} (r : Evaluated A) (f : A → source.State → Evaluated B) (g : B → source.State → Evaluated C)
-    → and_then (and_then r f) g ≡ and_then r (λ v t. and_then (f v t) g)
-then-then (Gives v t) f g = refl
-then-then (Ends end t) f g = refl
 
 -- both operands are evaluated, and then what they give is used
 both-then : (operator : BinaryOp) (r : Evaluated Held) (run : source.State → Evaluated Held)

@@ -19,15 +19,9 @@ use Rattle.lower_lines.specs.Relation.{Keeps, Shows}
 use Rattle.lower_lines.specs.Statements.{After, Exits}
 use Rattle.lower_lines.specs.Variables.{local_variables}
 use Rattle.lower_lines.proofs.Changes.{kept-none, kept-twice}
-use Rattle.lower_laws.proofs.Going.{Goes, goes-end}
+use Rattle.lower_laws.proofs.Going.{Goes, goes-end, visits-append}
 use Rattle.lower_laws.specs.Ways.{Behind, From, LeftBy}
 
-visits-append : (us vs : List Visit) (o : Outcome) → after_visits us (after_visits vs o) ≡ after_visits (us ++ vs) o
-visits-append us vs o = ap (λ (ws : List Visit). record {
-  visits = ws;
-  taken = o.taken;
-  written = o.written;
-  end = o.end;
 }) (sym (append_assoc us vs o.visits))
 
 -- nothing is done

@@ -31,6 +31,7 @@ use Rattle.lower_laws.proofs.Standing.{Stays, operand-stays}
 use Rattle.lower_laws.specs.WholeLaws.{AllArgumentsPass, ArePassed, Does}
 use Rattle.lower_laws.proofs.Levels.{first-room, second-room}
 use Rattle.lower_laws.proofs.Types.{not-void_number}
+use Rattle.lower_laws.proofs.ExpressionPassing.{alone-state}
 
 -- ---- one argument
 
@@ -153,11 +154,6 @@ none-pass S = record {
   );
   simple = λ e older s g b. refl;
 }
-
-alone-state : (s t : source.State) (values : List Held) (r : Evaluated (List Held)) → AllAlone s r
-    → r ≡ Gives values t → t ≡ s
-alone-state s t values (Gives others u) alone e = sym (cc) ∙ alone
-alone-state s t values (Ends end u) alone e = absurd alone
 
 module _ (S : Site) (l : Local) (a : Part) (run : source.State → Evaluated Held) (one : PassesOne S l.of a run)
     (falls : Falls run) (ls : List Local) (parts : List Part) (others : source.State → Evaluated (List Held))

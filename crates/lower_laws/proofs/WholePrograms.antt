@@ -30,6 +30,7 @@ use Rattle.lower_lines.proofs.Types.{some-and}
 use Rattle.lower_laws.specs.FitsLaws.{IsGood, Room, SmallNumber}
 use Rattle.lower_laws.proofs.Functions.{function-fits}
 use Rattle.lower_laws.proofs.Sizes.{counts-small, function-small, functions-few, numbers-small}
+use Rattle.lower_laws.proofs.Copying.{get-mapped}
 
 -- ---- lists
 
@@ -42,15 +43,6 @@ all-mapped : {X Y : Type 0} (f : X → Y) (P : Y → Type 0) (xs : List X)
     → ((k : ℕ) (x : X) → slice_get xs k ≡ Some x → P (f x)) → AllByRecursion P (map f xs)
 all-mapped f P [] h = tt
 all-mapped f P (x ∷ xs) h = (h 0 x refl, all-mapped f P xs (λ k y e. h (suc k) y e))
-
-get-mapped : {X Y : Type 0} (f : X → Y) (xs : List X) (k : ℕ) (x : X) → slice_get xs k ≡ Some x
-    → slice_get (map f xs) k ≡ Some (f x)
-get-mapped f [] k x e = absurd (cc)
-get-mapped f (y ∷ xs) zero x e = ap (λ (z : _). Some (f z)) (same y x e)
-  where
-    same : {A : Type 0} (y x : A) → Some y ≡ Some x → y ≡ x
-    same y x e = cc
-get-mapped f (y ∷ xs) (suc k) x e = get-mapped f xs k x e
 
 -- ---- the numbers of an op
 

@@ -32,7 +32,7 @@ use Rattle.lower_lines.specs.RelationLaws.{ArraysAreReached, ArraysAreSet, Array
 
 -- ---- lists
 
-index-of-map : {A B : Type 0} (f : A → B) (xs : List A) (k : ℕ) (x : A) (d : B) → slice_get xs k ≡ Some x
+pub index-of-map : {A B : Type 0} (f : A → B) (xs : List A) (k : ℕ) (x : A) (d : B) → slice_get xs k ≡ Some x
     → slice_index_or (map f xs) k d ≡ f x
 index-of-map f [] k x d e = absurd (cc)
 index-of-map f (y ∷ xs) zero x d e = ap f (same_Some y x e)

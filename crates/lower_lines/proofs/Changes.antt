@@ -22,6 +22,7 @@ use Rattle.lower_lines.proofs.Locals.{local-within, locals-kept, zip-index, zip-
 use Rattle.lower_lines.specs.RelationLaws.{BytesAreTaken, BytesAreWritten, KeptBelow, KeptByChange, KeptTwice}
 use Rattle.lower_lines.specs.RelationLaws.{LocalsAreHeld, NumbersAreSet, PointersAreSet, TemporariesAreFree}
 use Rattle.lower_lines.specs.RelationLaws.{TurnsAndVisitsAreFree}
+use Rattle.lower_lines.proofs.Depths.{all-same as waiting-refl}
 
 -- the call with other values in its variables
 abbrev changed : graph.Activation → List Value → graph.Activation
@@ -138,7 +139,7 @@ local-call p f active a b k l x ws e h many new typed below above =
     }
 
 -- a number takes one variable
-one-variable : (t : IntegerType) → length (type_widths (Integer t)) ≡ 1
+pub one-variable : (t : IntegerType) → length (type_widths (Integer t)) ≡ 1
 one-variable Char = refl
 one-variable Short = refl
 one-variable Int = refl
@@ -252,17 +253,6 @@ turns-free p active s g turns visits block point shows = record {
 
 -- ---- what lines keep
 
-waiting-refl : (ws : List graph.Waiting) → AllZip SameWaiting ws ws
-waiting-refl [] = tt
-waiting-refl (w ∷ ws) = (
-  record {
-    function = refl;
-    arguments = refl;
-    variables = refl;
-    block = refl;
-    point = refl;
-  },
-  waiting-refl ws,
 )
 
 waiting-twice : (us vs ws : List graph.Waiting) → AllZip SameWaiting us vs → AllZip SameWaiting vs ws

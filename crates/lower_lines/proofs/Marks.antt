@@ -36,7 +36,7 @@ use Rattle.lower_lines.proofs.Weighings.{function-weighs}
 
 -- ---- how many numbers there are
 
-numbers-first : (first : First) → length (first_numbers first) ≡ numbers_in_first first
+pub numbers-first : (first : First) → length (first_numbers first) ≡ numbers_in_first first
 numbers-first Nothing = refl
 numbers-first (Evaluated e) = refl
 numbers-first (Declared items) = length-map items item_number

@@ -24,6 +24,7 @@ use Rattle.lower_lines.proofs.Closing.{function-lays}
 use Rattle.lower_lines.proofs.Filling.{Lays, same, starting, under-one}
 use Rattle.lower_lines.proofs.Shapes.{StandFrom, block-ended, blocks-are}
 use Rattle.lower_lines.proofs.Shapes.{points-are, stand-behind}
+use Rattle.flow_graph.proofs.Points.{ends-cons as plain-more}
 
 -- ---- homes
 
@@ -94,10 +95,6 @@ points-once block p true (Emit i ∷ lines) = (
 points-once block p false (Emit i ∷ lines) = points-once block (suc p) false lines
 
 -- ---- ends only last
-
-plain-more : (ops : List Op) (p : ℕ) (ps : List ℕ) → IsPlainAt ops p → EndsOnlyLast ops ps → EndsOnlyLast ops (p ∷ ps)
-plain-more ops p [] h k = tt
-plain-more ops p (q ∷ ps) h k = (h, k)
 
 is-same : (b block : ℕ) → (b == block) ≡ true → same block b ≡ 1
 is-same b block e = grind (arith, nat_tests)

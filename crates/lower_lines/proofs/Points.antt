@@ -18,19 +18,11 @@ use Rattle.lower_lines.specs.Lines.{Line, Start, Emit, ops_in, starts_in, open_a
 use Rattle.lower_lines.specs.Programs.{blocks_of_function, graph_of_function, lowered}
 use Rattle.lower_lines.proofs.Standing.{closes-parts, following-next, here-open, here_after, not-started, open-append}
 use Rattle.lower_lines.proofs.Standing.{open-started, ops-append, points-append, points-below, starts-append}
+use Rattle.lower_lines.proofs.Arrays.{index-of-map as index-map}
 
 -- ---- the graph of a function
 
-index-map : {A B : Type 0} (f : A → B) (xs : List A) (k : ℕ) (x : A) (d : B) → slice_get xs k ≡ Some x
-    → slice_index_or (map f xs) k d ≡ f x
-index-map f [] k x d e = absurd (cc)
-index-map f (y ∷ xs) zero x d e = ap f (same y x e)
-  where
-    same : {A : Type 0} (y x : A) → Some y ≡ Some x → y ≡ x
-    same y x e = cc
-index-map f (y ∷ xs) (suc k) x d e = index-map f xs k x d e
-
-get-range : (a n j : ℕ) → j < n → slice_get (range_with_len a n) j ≡ Some (a + j)
+pub get-range : (a n j : ℕ) → j < n → slice_get (range_with_len a n) j ≡ Some (a + j)
 get-range a zero j h = absurd (omega (arith, h))
 get-range a (suc n) zero h = let e : a ≡ a + 0 = omega arith in ap Some e
 get-range a (suc n) (suc j) h =
@@ -54,7 +46,7 @@ points-there S site block h =
 
 -- ---- lists
 
-distinct-front : (b : ℕ) (xs ys : List ℕ) → IsDistinct (xs ++ b ∷ ys) → AllByRecursion (λ c. c ≢ b) xs
+pub distinct-front : (b : ℕ) (xs ys : List ℕ) → IsDistinct (xs ++ b ∷ ys) → AllByRecursion (λ c. c ≢ b) xs
 distinct-front b [] ys h = tt
 distinct-front b (x ∷ xs) ys h =
     ((λ e. (all-right (λ q. q ≢ x) xs (b ∷ ys) h.0).0 (sym e)), distinct-front b xs ys h.1)

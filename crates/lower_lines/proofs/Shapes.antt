@@ -27,6 +27,8 @@ use Rattle.lower_lines.specs.Variables.{Context, level_widths, levels_of, levels
 use Rattle.lower_lines.proofs.Closing.{function-lays}
 use Rattle.lower_lines.proofs.Filling.{Lays, same, starting, under}
 use Rattle.lower_lines.proofs.Weighings.{function-weighs}
+pub use Rattle.lower_lines.proofs.Points.{get-range}
+pub use Rattle.lower_lines.proofs.Arrays.{index-of-map as index-map}
 
 -- ---- the last op of a block
 
@@ -112,22 +114,6 @@ block-ends ops block p (Emit i ∷ lines) at =
     }
 
 -- ---- the blocks of a graph
-
-pub index-map : {A B : Type 0} (f : A → B) (xs : List A) (k : ℕ) (x : A) (d : B) → slice_get xs k ≡ Some x
-    → slice_index_or (map f xs) k d ≡ f x
-index-map f [] k x d e = absurd (cc)
-index-map f (y ∷ xs) zero x d e = ap f (one-some y x e)
-  where
-    one-some : {A : Type 0} (y x : A) → Some y ≡ Some x → y ≡ x
-    one-some y x e = cc
-index-map f (y ∷ xs) (suc k) x d e = index-map f xs k x d e
-
-pub get-range : (a n j : ℕ) → j < n → slice_get (range_with_len a n) j ≡ Some (a + j)
-get-range a zero j h = absurd (omega (arith, h))
-get-range a (suc n) zero h = let e : a ≡ a + 0 = omega arith in ap Some e
-get-range a (suc n) (suc j) h =
-    let e : a + 1 + j ≡ a + suc j = omega arith in
-    get-range (a + 1) n j (omega (arith, h)) ∙ ap Some e
 
 pub length-range : (a n : ℕ) → length (range_with_len a n) ≡ n
 length-range a zero = refl

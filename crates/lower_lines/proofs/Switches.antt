@@ -149,7 +149,7 @@ cases-length x y all (label ∷ labels) =
     let l' = length-append (case_of label.value (y + m)) (cases_of y all labels) in
     omega (arith, e, h, l, l')
 
-comparing-same : (xs ys : List Case) → length xs ≡ length ys → comparing_blocks xs ≡ comparing_blocks ys
+pub comparing-same : (xs ys : List Case) → length xs ≡ length ys → comparing_blocks xs ≡ comparing_blocks ys
 comparing-same [] [] e = refl
 comparing-same [] (y ∷ ys) e = absurd (omega (arith, e))
 comparing-same (x ∷ xs) [] e = absurd (omega (arith, e))

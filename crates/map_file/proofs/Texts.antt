@@ -6,6 +6,7 @@ use Rattle.std.proofs.lemmas.List.{append-nil, drop_more, get_or-map, length-map
 use Rattle.std.proofs.lemmas.List.Elements.{All-get_or}
 use Rattle.std.proofs.lemmas.List.Concat.{flat_map-append}
 use Rattle.map_text.specs.Words.{Line, line_text, numbered}
+pub use Rattle.map_file.proofs.Deciding.{so_at as made_at}
 
 abbrev pub texts : List Line → List ℕ
 texts lines = flat_map line_text lines
@@ -45,11 +46,3 @@ each_put {X = X} lines make start old new xs i d h all put =
     ∙ ap (λ (t : List ℕ). old ++ t) (sym (flat_map-append line_text here rest))
     ∙ ap (λ (ys : List X). old ++ texts (flat_map lines (map make ys))) (sym (drop_more xs i d h))
     ∙ all
-
--- what holds of each element that is made holds of the one at a place
-pub made_at : {X Y : Type 0} (make : X → Y) (P : Y → Type 0) (xs : List X) (i : ℕ) (x : X) → All P (map make xs)
-    → i < length xs → x ≡ get_or xs i x → P (make x)
-made_at make P xs i x all lt is =
-    let long = length-map xs make in
-    subst P (get_or-map make xs i x (make x) lt ∙ ap make (sym is))
-    (All-get_or P (map make xs) i (make x) (omega (arith, lt, long)) all)

@@ -31,14 +31,9 @@ use Rattle.map_lines.specs.MapOf.{Home, block_over}
 use Rattle.map_lines.proofs.HomesPlaces.{variable-at}
 use Rattle.map_lines.proofs.OwnedVariables.{width_of}
 use Rattle.map_lines.proofs.Permuted.{distinct-front, permuted-once}
+use Rattle.ia32_placements.proofs.Supported.{four-areas as areas-four}
 
 -- ---- areas
-
-areas-four : (takes : Takes) → length (areas_by takes) ≡ 4
-areas-four NoRegister = refl
-areas-four (Count count shifted) = refl
-areas-four (Division dividend divisor gives) = refl
-areas-four AcrossCall = refl
 
 -- every board has four areas
 pub four-areas : (o : Op) → length (areas_by (shape o).takes) ≡ 4

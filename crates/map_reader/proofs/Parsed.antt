@@ -10,20 +10,14 @@ use Rattle.std.specs.Str.{IsAscii, IsUtf8}
 use Rattle.std.specs.Str.Parse.{AllDigits, IsNumeral, digits_value, signed_digits_value}
 use Rattle.std.specs.Str.Parse.{without_leading_plus, without_leading_sign}
 use Rattle.map_text.specs.Fields.{are_digits, fits_word, is_numeral, signed_in, unsigned_in}
+use Rattle.map_text.proofs.Numbers.{digits-pass, numeral-passes}
 
 -- ---- tests
-
-digits-pass : (radix : ℕ) (ds : List ℕ) → AllDigits radix ds → are_digits radix ds ≡ true
-digits-pass radix [] all = refl
-digits-pass radix (c ∷ cs) all = and_from _ _ (lt-ltb (digit_value c) radix all.0) (digits-pass radix cs all.1)
 
 digits-tested : (radix : ℕ) (ds : List ℕ) → are_digits radix ds ≡ true → AllDigits radix ds
 digits-tested radix [] e = tt
 digits-tested radix (c ∷ cs) e =
     let parts = and_parts _ _ e in (ltb-true (digit_value c) radix parts.0, digits-tested radix cs parts.1)
-
-numeral-passes : (radix : ℕ) (ds : List ℕ) → IsNumeral radix ds → is_numeral radix ds ≡ true
-numeral-passes radix ds is = and_from _ _ (lt-ltb 0 (length ds) is.0) (digits-pass radix ds is.1)
 
 numeral-tested : (radix : ℕ) (ds : List ℕ) → is_numeral radix ds ≡ true → IsNumeral radix ds
 numeral-tested radix ds e =

@@ -26,12 +26,14 @@ use Rattle.flow_graph.specs.declared.op.Bits.{Bits}
 use Rattle.flow_graph.specs.declared.op.Bits.TheVariants.{Eight, Sixteen, ThirtyTwo}
 use Rattle.flow_graph.specs.declared.op.Comparison.{Comparison}
 use Rattle.flow_graph.specs.declared.op.Comparison.TheVariants.{Eq, Ne, Lt, Le, Gt, Ge}
+use Rattle.flow_graph.specs.declared.op.Order.{Order}
+use Rattle.flow_graph.specs.declared.op.Order.TheVariants as order
 use Rattle.map_text.specs.Fields.{cut_at, before, number_in, below_in, if_any_in}
 use Rattle.map_text.specs.Fields.{bytes_in, width_in, bits_in, comparison_in, named_in, named_by, register_in, place_in}
-use Rattle.map_text.specs.Fields.{standing_in, column_in, area_in, kind_in, width_of_digit, piece_in, all_in}
+use Rattle.map_text.specs.Fields.{order_in, standing_in, column_in, area_in, kind_in, width_of_digit, piece_in, all_in}
 use Rattle.map_text.specs.Maps.{IsNumber, IsNamed, Named, NamesScalar, NamesArray, NamesIndex, Standing, Temporary}
 use Rattle.map_text.specs.Words.{area_word, bits_text, column_letter, comparison_text, if_any_text, kind_letter}
-use Rattle.map_text.specs.Words.{named_text, piece_word, place_text, standing_word, width_digit, width_text}
+use Rattle.map_text.specs.Words.{named_text, order_text, piece_word, place_text, standing_word, width_digit, width_text}
 use Rattle.map_text.proofs.LineRules.{IsAnyNumber, IsStandingText}
 use Rattle.map_text.proofs.Numbers.{below-read, number-read}
 use Rattle.map_text.proofs.Plain.{Avoids, IsPlain, decimal-plain, digits-avoid, name-avoids, name-plain, plain-append}
@@ -113,6 +115,13 @@ comparison-read Lt = refl
 comparison-read Le = refl
 comparison-read Gt = refl
 comparison-read Ge = refl
+
+pub order-read : (o : Order) → order_in (order_text o) ≡ Some o
+unfolding order_in
+order-read order.Lt = refl
+order-read order.Le = refl
+order-read order.Gt = refl
+order-read order.Ge = refl
 
 -- the bytes of an element
 bytes-known : (n : ℕ) (w : List ℕ) → decimal n ≡ w → bytes_in w ≡ Some n → bytes_in (decimal n) ≡ Some n

@@ -16,6 +16,8 @@ use Rattle.flow_graph.specs.declared.op.Bits.{Bits}
 use Rattle.flow_graph.specs.declared.op.Bits.TheVariants.{Eight, Sixteen, ThirtyTwo}
 use Rattle.flow_graph.specs.declared.op.Comparison.{Comparison}
 use Rattle.flow_graph.specs.declared.op.Comparison.TheVariants.{Eq, Ne, Lt, Le, Gt, Ge}
+use Rattle.flow_graph.specs.declared.op.Order.{Order}
+use Rattle.flow_graph.specs.declared.op.Order.TheVariants as order
 use Rattle.flow_graph.specs.declared.op.Op.{Op}
 use Rattle.flow_graph.specs.declared.op.Op.TheVariants as op
 use Rattle.map_text.specs.Fields.{all_in, number_in, piece_in}
@@ -25,8 +27,8 @@ use Rattle.map_text.specs.Reading.{array_in, block_in, board_in, function_in, li
 use Rattle.map_text.specs.Reading.{point_in, variable_in, words_of}
 use Rattle.map_text.specs.Words.{AfterLine, ArrayLine, BeforeLine, BlockLine, BoardLine, EndLine, FunctionLine, Line}
 use Rattle.map_text.specs.Words.{ObjectLine, PointLine, SpilledLine, TitleLine, VariableLine, area_word, bits_text}
-use Rattle.map_text.specs.Words.{comparison_text, if_any_text, line_text, line_words, op_words, piece_word, spaced}
-use Rattle.map_text.specs.Words.{standing_word, width_text}
+use Rattle.map_text.specs.Words.{comparison_text, if_any_text, line_text, line_words, op_words, order_text, piece_word}
+use Rattle.map_text.specs.Words.{spaced, standing_word, width_text}
 use Rattle.map_text.proofs.FieldsRead.{IsPieceText, all-plain, all-read, area-plain, area-read, bytes-read, named-plain}
 use Rattle.map_text.proofs.FieldsRead.{named-read, piece-plain, piece-read, standing-plain, standing-read, width-read}
 use Rattle.map_text.proofs.LineRules.{IsAnyNumber, IsStandingText}
@@ -90,6 +92,12 @@ comparison-plain Le = plain-tested (codes "le") refl refl
 comparison-plain Gt = plain-tested (codes "gt") refl refl
 comparison-plain Ge = plain-tested (codes "ge") refl refl
 
+order-plain : (o : Order) → IsPlain (order_text o)
+order-plain order.Lt = plain-tested (codes "lt") refl refl
+order-plain order.Le = plain-tested (codes "le") refl refl
+order-plain order.Gt = plain-tested (codes "gt") refl refl
+order-plain order.Ge = plain-tested (codes "ge") refl refl
+
 one-plain : (w : List ℕ) → avoids space w ≡ true → avoids newline w ≡ true → (a : ℕ) → IsNumber a → ArePlain (w ∷ decimal a ∷ [])
 one-plain w e f a ok = (plain-tested w e f, (decimal-plain a ok, tt))
 
@@ -102,11 +110,30 @@ three-plain : (w : List ℕ) → avoids space w ≡ true → avoids newline w �
     → ArePlain (w ∷ decimal a ∷ decimal b ∷ decimal c ∷ [])
 three-plain w e f a b c ok = (plain-tested w e f, (decimal-plain a ok.0, (decimal-plain b ok.1, (decimal-plain c ok.2, tt))))
 
+-- two words, and three numbers behind them
+word-three-plain : (w how : List ℕ) → avoids space w ≡ true → avoids newline w ≡ true → IsPlain how → (a b c : ℕ)
+    → IsNumber a × IsNumber b × IsNumber c → ArePlain (w ∷ how ∷ decimal a ∷ decimal b ∷ decimal c ∷ [])
+word-three-plain w how e f h a b c ok =
+    (plain-tested w e f, (h, (decimal-plain a ok.0, (decimal-plain b ok.1, (decimal-plain c ok.2, tt)))))
+
+-- and four
+word-four-plain : (w how : List ℕ) → avoids space w ≡ true → avoids newline w ≡ true → IsPlain how → (a b x y : ℕ)
+    → IsNumber a × IsNumber b × IsNumber x × IsNumber y
+    → ArePlain (w ∷ how ∷ decimal a ∷ decimal b ∷ decimal x ∷ decimal y ∷ [])
+word-four-plain w how e f h a b x y ok = (
+  plain-tested w e f,
+  (
+    h,
+    (decimal-plain a ok.0, (decimal-plain b ok.1, (decimal-plain x ok.2, (decimal-plain y ok.3, tt)))),
+  ),
+)
+
 op-plain : (o : Op) → IsOpText o → ArePlain (op_words o)
 op-plain (op.Const d n) ok =
     (plain-tested (codes "const") refl refl, (decimal-plain d ok.0, (signed-plain n ok.1, tt)))
 op-plain (op.Copy a b) ok = two-plain (codes "copy") refl refl a b ok
 op-plain (op.Wide a b) ok = two-plain (codes "wide") refl refl a b ok
+op-plain (op.Zero a b) ok = two-plain (codes "zero") refl refl a b ok
 op-plain (op.Low a b) ok = two-plain (codes "low") refl refl a b ok
 op-plain (op.Low16 a b) ok = two-plain (codes "low16") refl refl a b ok
 op-plain (op.Neg a b) ok = two-plain (codes "neg") refl refl a b ok
@@ -119,49 +146,17 @@ op-plain (op.Or d a b) ok = three-plain (codes "or") refl refl d a b ok
 op-plain (op.Xor d a b) ok = three-plain (codes "xor") refl refl d a b ok
 op-plain (op.Shl d a b) ok = three-plain (codes "shl") refl refl d a b ok
 op-plain (op.Sar d a b) ok = three-plain (codes "sar") refl refl d a b ok
+op-plain (op.Shr d a b) ok = three-plain (codes "shr") refl refl d a b ok
 op-plain (op.Div d a b) ok = three-plain (codes "div") refl refl d a b ok
 op-plain (op.Rem d a b) ok = three-plain (codes "rem") refl refl d a b ok
-op-plain (op.Set how d a b) ok = (
-  plain-tested (codes "set") refl refl,
-  (
-    comparison-plain how,
-    (
-      decimal-plain d ok.0,
-      (
-        decimal-plain a ok.1,
-        (decimal-plain b ok.2, tt),
-      ),
-    ),
-  ),
-)
+op-plain (op.Udiv d a b) ok = three-plain (codes "udiv") refl refl d a b ok
+op-plain (op.Urem d a b) ok = three-plain (codes "urem") refl refl d a b ok
+op-plain (op.Set how d a b) ok = word-three-plain (codes "set") _ refl refl (comparison-plain how) d a b ok
+op-plain (op.Setu how d a b) ok = word-three-plain (codes "setu") _ refl refl (order-plain how) d a b ok
 op-plain (op.Frame d k) ok = two-plain (codes "frame") refl refl d k ok
 op-plain (op.Static d k) ok = two-plain (codes "static") refl refl d k ok
-op-plain (op.Load bits d p i) ok = (
-  plain-tested (codes "load") refl refl,
-  (
-    bits-plain bits,
-    (
-      decimal-plain d ok.0,
-      (
-        decimal-plain p ok.1,
-        (decimal-plain i ok.2, tt),
-      ),
-    ),
-  ),
-)
-op-plain (op.Store bits p i s) ok = (
-  plain-tested (codes "store") refl refl,
-  (
-    bits-plain bits,
-    (
-      decimal-plain p ok.0,
-      (
-        decimal-plain i ok.1,
-        (decimal-plain s ok.2, tt),
-      ),
-    ),
-  ),
-)
+op-plain (op.Load bits d p i) ok = word-three-plain (codes "load") _ refl refl (bits-plain bits) d p i ok
+op-plain (op.Store bits p i s) ok = word-three-plain (codes "store") _ refl refl (bits-plain bits) p i s ok
 op-plain (op.Get bits d k) ok =
     (plain-tested (codes "get") refl refl, (bits-plain bits, (decimal-plain d ok.0, (decimal-plain k ok.1, tt))))
 op-plain (op.Put bits k s) ok =
@@ -185,19 +180,8 @@ op-plain (op.Same a b) ok = two-plain (codes "same") refl refl a b ok
 op-plain (op.Mark s) ok = one-plain (codes "mark") refl refl s ok
 op-plain op.Turn ok = (plain-tested (codes "turn") refl refl, tt)
 op-plain (op.Jump x) ok = one-plain (codes "jump") refl refl x ok
-op-plain (op.Branch how a b x y) ok = (
-  plain-tested (codes "branch") refl refl,
-  (
-    comparison-plain how,
-    (
-      decimal-plain a ok.0,
-      (
-        decimal-plain b ok.1,
-        (decimal-plain x ok.2, (decimal-plain y ok.3, tt)),
-      ),
-    ),
-  ),
-)
+op-plain (op.Branch how a b x y) ok = word-four-plain (codes "branch") _ refl refl (comparison-plain how) a b x y ok
+op-plain (op.Branchu how a b x y) ok = word-four-plain (codes "branchu") _ refl refl (order-plain how) a b x y ok
 op-plain (op.Return a) ok = (plain-tested (codes "return") refl refl, (any-plain a ok, tt))
 
 areas-plain : (areas : List Area) → ArePlain (map area_word areas)

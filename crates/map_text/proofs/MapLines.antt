@@ -108,6 +108,7 @@ op-text : (o : Op) → AllByRecursion NeedNumbers (needs o) → AboutNumbers (sh
 op-text (op.Const d n) h about = (h.0, about)
 op-text (op.Copy a b) h about = h.0
 op-text (op.Wide a b) h about = (h.0, h.1.0)
+op-text (op.Zero a b) h about = (h.0, h.1.0)
 op-text (op.Low a b) h about = (h.0, h.1.0)
 op-text (op.Low16 a b) h about = (h.0, h.1.0)
 op-text (op.Neg a b) h about = (h.0, h.1.0)
@@ -120,9 +121,13 @@ op-text (op.Or d a b) h about = (h.0, h.1.0, h.1.1.0)
 op-text (op.Xor d a b) h about = (h.0, h.1.0, h.1.1.0)
 op-text (op.Shl d a b) h about = (h.0, h.1.0, h.1.1.0)
 op-text (op.Sar d a b) h about = (h.0, h.1.0, h.1.1.0)
+op-text (op.Shr d a b) h about = (h.0, h.1.0, h.1.1.0)
 op-text (op.Div d a b) h about = (h.0, h.1.0, h.1.1.0)
 op-text (op.Rem d a b) h about = (h.0, h.1.0, h.1.1.0)
+op-text (op.Udiv d a b) h about = (h.0, h.1.0, h.1.1.0)
+op-text (op.Urem d a b) h about = (h.0, h.1.0, h.1.1.0)
 op-text (op.Set how d a b) h about = (h.0, h.1.0, h.1.1.0)
+op-text (op.Setu how d a b) h about = (h.0, h.1.0, h.1.1.0)
 op-text (op.Frame d k) h about = (h.0, h.1.0)
 op-text (op.Static d k) h about = (h.0, about)
 op-text (op.Load bits d p i) h about = (h.0, h.1.0, h.1.1.0)
@@ -140,6 +145,7 @@ op-text (op.Mark s) h about = about
 op-text op.Turn h about = tt
 op-text (op.Jump x) h about = h.0
 op-text (op.Branch how a b x y) h about = (h.0, h.1.0, h.1.1.0, h.1.1.1.0)
+op-text (op.Branchu how a b x y) h about = (h.0, h.1.0, h.1.1.0, h.1.1.1.0)
 op-text (op.Return a) h about = any-text a h
 
 op-reads : (m : Map) (f : MapFunction) (o : Op) → AreFew m f → IsMapOp m f o → IsOpText o

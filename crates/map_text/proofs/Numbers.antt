@@ -23,7 +23,7 @@ pub both-true : (x y : Bool) → x ≡ true → y ≡ true → (x && y) ≡ true
 both-true true y e f = f
 both-true false y e f = e
 
-digits-pass : (radix : ℕ) (ds : List ℕ) → AllDigits radix ds → are_digits radix ds ≡ true
+pub digits-pass : (radix : ℕ) (ds : List ℕ) → AllDigits radix ds → are_digits radix ds ≡ true
 digits-pass radix [] all = refl
 digits-pass radix (c ∷ cs) all =
     both-true _ _ (lt-ltb (digit_value c) radix all.0) (digits-pass radix cs all.1)

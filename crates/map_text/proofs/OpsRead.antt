@@ -4,6 +4,7 @@ use Rattle.std.proofs.Common.{bytes_eq, Option, Some, option_map, refl, ap, w32,
 use Rattle.std.specs.List.{AllByRecursion}
 use Rattle.flow_graph.specs.declared.op.Bits.{Bits}
 use Rattle.flow_graph.specs.declared.op.Comparison.{Comparison}
+use Rattle.flow_graph.specs.declared.op.Order.{Order}
 use Rattle.flow_graph.specs.declared.op.Op.{Op}
 use Rattle.flow_graph.specs.declared.op.Op.TheVariants as op
 use Rattle.map_text.specs.Fields.{number_in}
@@ -11,7 +12,7 @@ use Rattle.map_text.specs.Words.{op_words}
 use Rattle.map_text.specs.Maps.{IsNumber}
 use Rattle.map_text.specs.Reading.{call_in, op_by, op_in, op_of_one, op_of_two, op_of_three, op_with_one, op_with_two}
 use Rattle.map_text.specs.Reading.{op_with_three, op_with_four, op_with_five}
-use Rattle.map_text.proofs.FieldsRead.{all-read, bits-read, comparison-read, if-any-read}
+use Rattle.map_text.proofs.FieldsRead.{all-read, bits-read, comparison-read, if-any-read, order-read}
 use Rattle.map_text.proofs.LineRules.{IsAnyNumber}
 use Rattle.map_text.proofs.Numbers.{number-read, signed-read}
 
@@ -20,6 +21,7 @@ abbrev pub IsOpText : Op → Type 0
 IsOpText (op.Const d n) = IsNumber d × FitsSigned w32 n
 IsOpText (op.Copy a b) = IsNumber a × IsNumber b
 IsOpText (op.Wide a b) = IsNumber a × IsNumber b
+IsOpText (op.Zero a b) = IsNumber a × IsNumber b
 IsOpText (op.Low a b) = IsNumber a × IsNumber b
 IsOpText (op.Low16 a b) = IsNumber a × IsNumber b
 IsOpText (op.Neg a b) = IsNumber a × IsNumber b
@@ -32,9 +34,13 @@ IsOpText (op.Or d a b) = IsNumber d × IsNumber a × IsNumber b
 IsOpText (op.Xor d a b) = IsNumber d × IsNumber a × IsNumber b
 IsOpText (op.Shl d a b) = IsNumber d × IsNumber a × IsNumber b
 IsOpText (op.Sar d a b) = IsNumber d × IsNumber a × IsNumber b
+IsOpText (op.Shr d a b) = IsNumber d × IsNumber a × IsNumber b
 IsOpText (op.Div d a b) = IsNumber d × IsNumber a × IsNumber b
 IsOpText (op.Rem d a b) = IsNumber d × IsNumber a × IsNumber b
+IsOpText (op.Udiv d a b) = IsNumber d × IsNumber a × IsNumber b
+IsOpText (op.Urem d a b) = IsNumber d × IsNumber a × IsNumber b
 IsOpText (op.Set how d a b) = IsNumber d × IsNumber a × IsNumber b
+IsOpText (op.Setu how d a b) = IsNumber d × IsNumber a × IsNumber b
 IsOpText (op.Frame d k) = IsNumber d × IsNumber k
 IsOpText (op.Static d k) = IsNumber d × IsNumber k
 IsOpText (op.Load bits d p i) = IsNumber d × IsNumber p × IsNumber i
@@ -52,6 +58,7 @@ IsOpText (op.Mark s) = IsNumber s
 IsOpText op.Turn = Unit {0}
 IsOpText (op.Jump x) = IsNumber x
 IsOpText (op.Branch how a b x y) = IsNumber a × IsNumber b × IsNumber x × IsNumber y
+IsOpText (op.Branchu how a b x y) = IsNumber a × IsNumber b × IsNumber x × IsNumber y
 IsOpText (op.Return a) = IsAnyNumber a
 
 -- ---- ops by their parts
@@ -93,6 +100,12 @@ unfolding op_in op_by op_with_four
 set-read how d a b ok =
     rw (comparison-read how, number-read d ok.0, number-read a ok.1, number-read b ok.2) refl
 
+setu-read : (how : Order) (d a b : ℕ) → IsOpText (op.Setu how d a b) → op_in (op_words (op.Setu how d a b))
+    ≡ Some (op.Setu how d a b)
+unfolding op_in op_by op_with_four
+setu-read how d a b ok =
+    rw (order-read how, number-read d ok.0, number-read a ok.1, number-read b ok.2) refl
+
 load-read : (bits : Bits) (d p i : ℕ) → IsOpText (op.Load bits d p i) → op_in (op_words (op.Load bits d p i))
     ≡ Some (op.Load bits d p i)
 unfolding op_in op_by op_with_four
@@ -109,6 +122,18 @@ unfolding op_in op_by op_with_five
 branch-read how a b x y ok =
     rw (
       comparison-read how,
+      number-read a ok.0,
+      number-read b ok.1,
+      number-read x ok.2,
+      number-read y ok.3,
+    ) refl
+
+branchu-read : (how : Order) (a b x y : ℕ) → IsOpText (op.Branchu how a b x y)
+    → op_in (op_words (op.Branchu how a b x y)) ≡ Some (op.Branchu how a b x y)
+unfolding op_in op_by op_with_five
+branchu-read how a b x y ok =
+    rw (
+      order-read how,
       number-read a ok.0,
       number-read b ok.1,
       number-read x ok.2,
@@ -140,6 +165,7 @@ unfolding op_of_one op_of_two op_of_three
 op-read (op.Const d n) ok = const-read d n ok
 op-read (op.Copy a b) ok = two-read (codes "copy") refl refl a b ok
 op-read (op.Wide a b) ok = two-read (codes "wide") refl refl a b ok
+op-read (op.Zero a b) ok = two-read (codes "zero") refl refl a b ok
 op-read (op.Low a b) ok = two-read (codes "low") refl refl a b ok
 op-read (op.Low16 a b) ok = two-read (codes "low16") refl refl a b ok
 op-read (op.Neg a b) ok = two-read (codes "neg") refl refl a b ok
@@ -152,9 +178,13 @@ op-read (op.Or d a b) ok = three-read (codes "or") refl refl refl d a b ok
 op-read (op.Xor d a b) ok = three-read (codes "xor") refl refl refl d a b ok
 op-read (op.Shl d a b) ok = three-read (codes "shl") refl refl refl d a b ok
 op-read (op.Sar d a b) ok = three-read (codes "sar") refl refl refl d a b ok
+op-read (op.Shr d a b) ok = three-read (codes "shr") refl refl refl d a b ok
 op-read (op.Div d a b) ok = three-read (codes "div") refl refl refl d a b ok
 op-read (op.Rem d a b) ok = three-read (codes "rem") refl refl refl d a b ok
+op-read (op.Udiv d a b) ok = three-read (codes "udiv") refl refl refl d a b ok
+op-read (op.Urem d a b) ok = three-read (codes "urem") refl refl refl d a b ok
 op-read (op.Set how d a b) ok = set-read how d a b ok
+op-read (op.Setu how d a b) ok = setu-read how d a b ok
 op-read (op.Frame d k) ok = two-read (codes "frame") refl refl d k ok
 op-read (op.Static d k) ok = two-read (codes "static") refl refl d k ok
 op-read (op.Load bits d p i) ok = load-read bits d p i ok
@@ -172,4 +202,5 @@ op-read (op.Mark s) ok = one-read (codes "mark") refl refl s ok
 op-read op.Turn ok = turn-read
 op-read (op.Jump x) ok = one-read (codes "jump") refl refl x ok
 op-read (op.Branch how a b x y) ok = branch-read how a b x y ok
+op-read (op.Branchu how a b x y) ok = branchu-read how a b x y ok
 op-read (op.Return a) ok = return-read a ok

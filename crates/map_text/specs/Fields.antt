@@ -22,6 +22,8 @@ use Rattle.flow_graph.specs.declared.op.Bits.{Bits}
 use Rattle.flow_graph.specs.declared.op.Bits.TheVariants.{Eight, Sixteen, ThirtyTwo}
 use Rattle.flow_graph.specs.declared.op.Comparison.{Comparison}
 use Rattle.flow_graph.specs.declared.op.Comparison.TheVariants.{Eq, Ne, Lt, Le, Gt, Ge}
+use Rattle.flow_graph.specs.declared.op.Order.{Order}
+use Rattle.flow_graph.specs.declared.op.Order.TheVariants as order
 use Rattle.map_text.specs.Maps.{Standing, Named, NamesScalar, NamesArray, NamesIndex, Temporary}
 
 -- ---- parts of a word
@@ -118,6 +120,15 @@ comparison_in word =
     else if bytes_eq word (codes "le") then Some Le
     else if bytes_eq word (codes "gt") then Some Gt
     else if bytes_eq word (codes "ge") then Some Ge
+    else None
+
+-- how two numbers without sign are ordered
+unfoldable pub order_in : List ℕ → Option Order
+order_in word =
+    if bytes_eq word (codes "lt") then Some order.Lt
+    else if bytes_eq word (codes "le") then Some order.Le
+    else if bytes_eq word (codes "gt") then Some order.Gt
+    else if bytes_eq word (codes "ge") then Some order.Ge
     else None
 
 abbrev pub part_named : List ℕ → List ℕ → Option Named

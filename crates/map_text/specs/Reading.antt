@@ -10,7 +10,7 @@ use Rattle.ia32_insn.specs.Reading.{◌>>=◌}
 use Rattle.flow_graph.specs.declared.op.Op.{Op}
 use Rattle.flow_graph.specs.declared.op.Op.TheVariants as op
 use Rattle.map_text.specs.Fields.{number_in, address_in, signed_in, below_in, bytes_in, width_in, named_in, if_any_in}
-use Rattle.map_text.specs.Fields.{bits_in, comparison_in, standing_in, area_in, piece_in, all_in}
+use Rattle.map_text.specs.Fields.{bits_in, comparison_in, order_in, standing_in, area_in, piece_in, all_in}
 use Rattle.map_text.specs.Maps.{Map, MapFunction, MapPoint}
 use Rattle.map_text.specs.Words.{AfterLine, ArrayLine, BeforeLine, BlockLine, BoardLine, EndLine, FunctionLine, Line}
 use Rattle.map_text.specs.Words.{ObjectLine, PointLine, SpilledLine, TitleLine, VariableLine}
@@ -32,6 +32,7 @@ unfoldable pub op_of_two : List ℕ → ℕ → ℕ → Option Op
 op_of_two word a b =
     if bytes_eq word (codes "copy") then Some (op.Copy a b)
     else if bytes_eq word (codes "wide") then Some (op.Wide a b)
+    else if bytes_eq word (codes "zero") then Some (op.Zero a b)
     else if bytes_eq word (codes "low") then Some (op.Low a b)
     else if bytes_eq word (codes "low16") then Some (op.Low16 a b)
     else if bytes_eq word (codes "neg") then Some (op.Neg a b)
@@ -54,8 +55,11 @@ op_of_three word a b c =
     else if bytes_eq word (codes "xor") then Some (op.Xor a b c)
     else if bytes_eq word (codes "shl") then Some (op.Shl a b c)
     else if bytes_eq word (codes "sar") then Some (op.Sar a b c)
+    else if bytes_eq word (codes "shr") then Some (op.Shr a b c)
     else if bytes_eq word (codes "div") then Some (op.Div a b c)
     else if bytes_eq word (codes "rem") then Some (op.Rem a b c)
+    else if bytes_eq word (codes "udiv") then Some (op.Udiv a b c)
+    else if bytes_eq word (codes "urem") then Some (op.Urem a b c)
     else None
 
 unfoldable pub op_with_one : List ℕ → List ℕ → Option Op
@@ -104,6 +108,13 @@ op_with_four word a b c d =
       first ← number_in c
       second ← number_in d
       Some (op.Set how to first second))
+    else if bytes_eq word (codes "setu")
+    then (do
+      how ← order_in a
+      to ← number_in b
+      first ← number_in c
+      second ← number_in d
+      Some (op.Setu how to first second))
     else if bytes_eq word (codes "load")
     then (do
       bits ← bits_in a
@@ -130,6 +141,14 @@ op_with_five word a b c d e =
       x ← number_in d
       y ← number_in e
       Some (op.Branch how first second x y))
+    else if bytes_eq word (codes "branchu")
+    then (do
+      how ← order_in a
+      first ← number_in b
+      second ← number_in c
+      x ← number_in d
+      y ← number_in e
+      Some (op.Branchu how first second x y))
     else None
 
 -- a call, of any number of argument words

@@ -22,6 +22,8 @@ use Rattle.flow_graph.specs.declared.op.Bits.{Bits}
 use Rattle.flow_graph.specs.declared.op.Bits.TheVariants.{Eight, Sixteen, ThirtyTwo}
 use Rattle.flow_graph.specs.declared.op.Comparison.{Comparison}
 use Rattle.flow_graph.specs.declared.op.Comparison.TheVariants.{Eq, Ne, Lt, Le, Gt, Ge}
+use Rattle.flow_graph.specs.declared.op.Order.{Order}
+use Rattle.flow_graph.specs.declared.op.Order.TheVariants as order
 use Rattle.flow_graph.specs.declared.op.Op.{Op}
 use Rattle.flow_graph.specs.declared.op.Op.TheVariants as op
 use Rattle.map_text.specs.Maps.{Map, MapObject, MapFunction, MapArray, MapVariable, MapPoint, Standing, Named}
@@ -150,6 +152,13 @@ comparison_text Le = codes "le"
 comparison_text Gt = codes "gt"
 comparison_text Ge = codes "ge"
 
+-- how two numbers without sign are ordered
+abbrev pub order_text : Order → List ℕ
+order_text order.Lt = codes "lt"
+order_text order.Le = codes "le"
+order_text order.Gt = codes "gt"
+order_text order.Ge = codes "ge"
+
 -- a variable, or `-` where there is none
 abbrev pub if_any_text : Option ℕ → List ℕ
 if_any_text None = codes "-"
@@ -164,6 +173,7 @@ abbrev pub op_words : Op → List (List ℕ)
 op_words (op.Const d n) = codes "const" ∷ decimal d ∷ signed_decimal n ∷ []
 op_words (op.Copy d s) = codes "copy" ∷ decimal d ∷ decimal s ∷ []
 op_words (op.Wide d s) = codes "wide" ∷ decimal d ∷ decimal s ∷ []
+op_words (op.Zero d s) = codes "zero" ∷ decimal d ∷ decimal s ∷ []
 op_words (op.Low d s) = codes "low" ∷ decimal d ∷ decimal s ∷ []
 op_words (op.Low16 d s) = codes "low16" ∷ decimal d ∷ decimal s ∷ []
 op_words (op.Neg d a) = codes "neg" ∷ decimal d ∷ decimal a ∷ []
@@ -176,9 +186,13 @@ op_words (op.Or d a b) = codes "or" ∷ decimal d ∷ decimal a ∷ decimal b �
 op_words (op.Xor d a b) = codes "xor" ∷ decimal d ∷ decimal a ∷ decimal b ∷ []
 op_words (op.Shl d a c) = codes "shl" ∷ decimal d ∷ decimal a ∷ decimal c ∷ []
 op_words (op.Sar d a c) = codes "sar" ∷ decimal d ∷ decimal a ∷ decimal c ∷ []
+op_words (op.Shr d a c) = codes "shr" ∷ decimal d ∷ decimal a ∷ decimal c ∷ []
 op_words (op.Div d a b) = codes "div" ∷ decimal d ∷ decimal a ∷ decimal b ∷ []
 op_words (op.Rem d a b) = codes "rem" ∷ decimal d ∷ decimal a ∷ decimal b ∷ []
+op_words (op.Udiv d a b) = codes "udiv" ∷ decimal d ∷ decimal a ∷ decimal b ∷ []
+op_words (op.Urem d a b) = codes "urem" ∷ decimal d ∷ decimal a ∷ decimal b ∷ []
 op_words (op.Set how d a b) = codes "set" ∷ comparison_text how ∷ decimal d ∷ decimal a ∷ decimal b ∷ []
+op_words (op.Setu how d a b) = codes "setu" ∷ order_text how ∷ decimal d ∷ decimal a ∷ decimal b ∷ []
 op_words (op.Frame d k) = codes "frame" ∷ decimal d ∷ decimal k ∷ []
 op_words (op.Static d k) = codes "static" ∷ decimal d ∷ decimal k ∷ []
 op_words (op.Load bits d p i) = codes "load" ∷ bits_text bits ∷ decimal d ∷ decimal p ∷ decimal i ∷ []
@@ -196,6 +210,8 @@ op_words (op.Mark s) = codes "mark" ∷ decimal s ∷ []
 op_words op.Turn = codes "turn" ∷ []
 op_words (op.Jump x) = codes "jump" ∷ decimal x ∷ []
 op_words (op.Branch how a b x y) = codes "branch" ∷ comparison_text how ∷ decimal a ∷ decimal b ∷ decimal x ∷ decimal y
+    ∷ []
+op_words (op.Branchu how a b x y) = codes "branchu" ∷ order_text how ∷ decimal a ∷ decimal b ∷ decimal x ∷ decimal y
     ∷ []
 op_words (op.Return a) = codes "return" ∷ if_any_text a ∷ []
 

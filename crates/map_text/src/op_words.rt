@@ -4,9 +4,10 @@ ghost use Rattle.std.specs.Prelude.{◌≡◌, ◌∷◌, [], ◌++◌, OnOk, de
 ghost use Rattle.std.specs.Fmt.{signed_decimal};
 ghost use Rattle.flow_graph.specs.declared.op.Op.TheVariants as op;
 ghost use Rattle.map_text.specs.Words.{argument_text, bits_text, comparison_text, each_spaced, if_any_text, op_words};
+ghost use Rattle.map_text.specs.Words.{order_text};
 
 use crate::digits::push_number;
-use flow_graph::{Bits, Comparison, Op, Words};
+use flow_graph::{Bits, Comparison, Op, Order, Words};
 use itoa::Buffer;
 use pcc_base::NoMemory;
 
@@ -74,6 +75,18 @@ fn comparison_word(how: Comparison) -> &'static [u8]
         Comparison::Le => b"le",
         Comparison::Gt => b"gt",
         Comparison::Ge => b"ge",
+    }
+}
+
+/// The word of an order.
+fn order_word(how: Order) -> &'static [u8]
+    ensures { result.now ≡ order_text how }
+{
+    match how {
+        Order::Lt => b"lt",
+        Order::Le => b"le",
+        Order::Gt => b"gt",
+        Order::Ge => b"ge",
     }
 }
 
@@ -146,6 +159,31 @@ fn push_word_three(
     Ok(())
 }
 
+/// Puts two words and four numbers at the end.
+#[tactic(auto, using(crate::proofs::Printed::six_pushed))]
+fn push_word_four(
+    out: &mut Vec<u8>,
+    word: &[u8],
+    how: &[u8],
+    a: u32,
+    b: u32,
+    x: u32,
+    y: u32,
+) -> Result<(), NoMemory>
+    ensures { OnOk result (
+        out.new.items
+        ≡ out.old.items
+        ++ each_spaced (word.now ∷ how.now ∷ decimal a ∷ decimal b ∷ decimal x ∷ decimal y ∷ [])) }
+{
+    push_word(out, word)?;
+    push_word(out, how)?;
+    push_next(out, a)?;
+    push_next(out, b)?;
+    push_next(out, x)?;
+    push_next(out, y)?;
+    Ok(())
+}
+
 /// Puts the words of a constant at the end.
 #[tactic(auto, using(crate::proofs::Printed::three_pushed))]
 fn push_const(out: &mut Vec<u8>, to: u32, number: i32) -> Result<(), NoMemory>
@@ -154,27 +192,6 @@ fn push_const(out: &mut Vec<u8>, to: u32, number: i32) -> Result<(), NoMemory>
     push_word(out, b"const")?;
     push_next(out, to)?;
     push_signed(out, number)?;
-    Ok(())
-}
-
-/// Puts the words of a branch at the end: how two variables are compared, and the two blocks.
-#[tactic(auto, using(crate::proofs::Printed::six_pushed))]
-fn push_branch(
-    out: &mut Vec<u8>,
-    how: Comparison,
-    a: u32,
-    b: u32,
-    x: u32,
-    y: u32,
-) -> Result<(), NoMemory>
-    ensures { OnOk result (out.new.items ≡ out.old.items ++ each_spaced (op_words (op.Branch how a b x y))) }
-{
-    push_word(out, b"branch")?;
-    push_word(out, comparison_word(how))?;
-    push_next(out, a)?;
-    push_next(out, b)?;
-    push_next(out, x)?;
-    push_next(out, y)?;
     Ok(())
 }
 
@@ -225,6 +242,7 @@ pub fn push_op(out: &mut Vec<u8>, op: &Op) -> Result<(), NoMemory>
         Op::Const(to, number) => push_const(out, to, number)?,
         Op::Copy(to, from) => push_two(out, b"copy", to, from)?,
         Op::Wide(to, from) => push_two(out, b"wide", to, from)?,
+        Op::Zero(to, from) => push_two(out, b"zero", to, from)?,
         Op::Low(to, from) => push_two(out, b"low", to, from)?,
         Op::Low16(to, from) => push_two(out, b"low16", to, from)?,
         Op::Neg(to, a) => push_two(out, b"neg", to, a)?,
@@ -237,9 +255,13 @@ pub fn push_op(out: &mut Vec<u8>, op: &Op) -> Result<(), NoMemory>
         Op::Xor(to, a, b) => push_three(out, b"xor", to, a, b)?,
         Op::Shl(to, a, count) => push_three(out, b"shl", to, a, count)?,
         Op::Sar(to, a, count) => push_three(out, b"sar", to, a, count)?,
+        Op::Shr(to, a, count) => push_three(out, b"shr", to, a, count)?,
         Op::Div(to, a, b) => push_three(out, b"div", to, a, b)?,
         Op::Rem(to, a, b) => push_three(out, b"rem", to, a, b)?,
+        Op::Udiv(to, a, b) => push_three(out, b"udiv", to, a, b)?,
+        Op::Urem(to, a, b) => push_three(out, b"urem", to, a, b)?,
         Op::Set(how, to, a, b) => push_word_three(out, b"set", comparison_word(how), to, a, b)?,
+        Op::Setu(how, to, a, b) => push_word_three(out, b"setu", order_word(how), to, a, b)?,
         Op::Frame(to, array) => push_two(out, b"frame", to, array)?,
         Op::Static(to, object) => push_two(out, b"static", to, object)?,
         Op::Load(bits, to, p, i) => push_word_three(out, b"load", bits_word(bits), to, p, i)?,
@@ -256,7 +278,12 @@ pub fn push_op(out: &mut Vec<u8>, op: &Op) -> Result<(), NoMemory>
         Op::Mark(statement) => push_one(out, b"mark", statement)?,
         Op::Turn => push_word(out, b"turn")?,
         Op::Jump(block) => push_one(out, b"jump", block)?,
-        Op::Branch(how, a, b, x, y) => push_branch(out, how, a, b, x, y)?,
+        Op::Branch(how, a, b, x, y) => {
+            push_word_four(out, b"branch", comparison_word(how), a, b, x, y)?
+        }
+        Op::Branchu(how, a, b, x, y) => {
+            push_word_four(out, b"branchu", order_word(how), a, b, x, y)?
+        }
         Op::Return(from) => push_return(out, from)?,
     }
     Ok(())

@@ -40,6 +40,7 @@ use Rattle.ia32_rows.proofs.Kept.{other-cells, framed-kept, HasCells}
 use Rattle.ia32_rows.proofs.Moves.{gives-word, general-works, byte-below}
 use Rattle.parallel_copies.specs.Copies.{Fits, IsInside, ApartFromTarget, size_of}
 use Rattle.parallel_copies.specs.Steps.{NotSlots, copy_insn, swap_insn}
+use Rattle.ia32_rows.proofs.Bytes.{StoredByte, store-byte-in}
 
 -- ---- a copy
 
@@ -113,49 +114,6 @@ carries-slot site frame k i n s t framed stored makes =
     )
 
 -- ---- a byte in memory
-
--- what a store of a byte in the data leaves
-record StoredByte (site : Site) (a value : ℕ) (s t : State) : Type 0 where
-  is : store 1 a value s ≡ Ok t
-  sound : SoundAt site t
-  same : load 1 a t ≡ Ok value
-  apart : (n b v : ℕ) → AreDisjoint a 1 b n → load n b s ≡ Ok v → load n b t ≡ Ok v
-  rest : KeepsAllButMemory s t
-
-store-byte-in : (site : Site) (a value : ℕ) (s : State) → SoundAt site s → site.low ≤ a → a + 1 ≤ site.high
-    → value < 256 → (t : State) × StoredByte site a value s t
-store-byte-in site a value s h from to fits =
-    let new : List ℕ = little_bytes 1 value in
-    let one_long : length new ≡ 1 = length-bytes_low_first 0 1 value in
-    let size = h.size in
-    let one = le-leb site.low a from in
-    let two = le-leb (a + length new) (site.low + length h.bytes) (omega (arith, one_long)) in
-    let memory : List Area = text_area site.text ∷ with_bytes a new (data_from site.low h.bytes) ∷ [] in
-    let done : stored a new s.memory ≡ Some memory = ap (stored a new) h.memory ∙ rw (one, two) refl in
-    let t : State = record s { memory = memory } in
-    let is : store 1 a value s ≡ Ok t = ap (λ (o : Option (List Area)).
-    and_then (or_end o (denied a s)) (λ m. let r : Result State End = Ok (record s { memory = m }) in r)) done in
-    let bytes : List ℕ = take (a - site.low) h.bytes ++ new ++ drop (a - site.low + length new) h.bytes in
-    let long : length bytes ≡ length h.bytes = length-replaced (a - site.low) new h.bytes (omega (arith, one_long)) in
-    let sound : SoundAt site t = record {
-      bytes = bytes;
-      memory = refl;
-      size = ap (λ (k : ℕ). site.low + k) long ∙ size;
-      above = h.above;
-      below = h.below;
-      registers = h.registers;
-    } in
-    let old = load-in site.text site.low site.high 1 a s h from to in (
-      t,
-      record {
-        is = is;
-        sound = sound;
-        same = load-stored 1 a value old.0 s t (omega arith) fits (areas-apart site.text site.low site.high s h) old.1
-            is;
-        apart = λ n b v places e. load-elsewhere a 1 b n value s t is places ∙ e;
-        rest = store-keeps_rest a new s t is;
-      },
-    )
 
 -- to the lowest byte of a slot
 carries-slot_byte : (site : Site) (frame : ℕ) (r : Reg8) (k : ℕ) (s : State) → Framed site frame s → 4 ≤ k → k ≤ frame

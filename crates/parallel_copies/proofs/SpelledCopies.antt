@@ -22,6 +22,7 @@ use Rattle.ia32_rows.specs.Effects.{IsStraight}
 use Rattle.parallel_copies.specs.Steps.{NotSlots, copy_insn, swap_insn}
 use Rattle.parallel_copies.proofs.PlaceKinds.{IsSource}
 use Rattle.parallel_copies.proofs.Single.{CanExchange, CanTake}
+use Rattle.ia32_insn.proofs.Rows.{number8_below}
 
 -- ---- straight code
 
@@ -55,16 +56,6 @@ swap-straight Two (InSlot r) q h k = absurd h
 swap-straight One (InSlot r) q h k = absurd h
 
 -- ---- spellings
-
-number8_below : (r : Reg8) → number8 r < 8
-number8_below Al = omega arith
-number8_below Cl = omega arith
-number8_below Dl = omega arith
-number8_below Bl = omega arith
-number8_below Ah = omega arith
-number8_below Ch = omega arith
-number8_below Dh = omega arith
-number8_below Bh = omega arith
 
 -- two registers behind an opcode of one byte
 registers-row : (opcode reg number : ℕ) → reg < 8 → number < 8

@@ -27,7 +27,7 @@ use Rattle.parallel_copies.proofs.Lists.{all-append, all-at, all-from, all-map, 
 use Rattle.parallel_copies.proofs.Apart.{one-place}
 use Rattle.parallel_copies.proofs.Beside.{beside-or_same}
 use Rattle.parallel_copies.proofs.Keeping.{contains-after, keeps-rest}
-use Rattle.parallel_copies.proofs.Stuck.{all-filtered, beside-filtered}
+use Rattle.parallel_copies.proofs.Stuck.{all-filtered, beside-filtered, not-false as turned}
 use Rattle.parallel_copies.proofs.Counting.{few-moves}
 
 -- ---- the moves that change something
@@ -38,10 +38,6 @@ busy-slots (InSlot k) (InWord r) e = tt
 busy-slots (InSlot k) (InByte r) e = tt
 busy-slots (InWord r) q e = tt
 busy-slots (InByte r) q e = tt
-
-turned : (b : Bool) → not b ≡ false → b ≡ true
-turned true e = refl
-turned false e = cc
 
 -- a move whose slots are one, and that isn't busy, leads to where it comes from
 pub idle-same : (p q : Place) → AreOneSlot p q → not (is_idle p q) ≡ false → p ≡ q

@@ -1,3 +1,4 @@
+pub mod Arithmetic
 pub mod Ascii
 pub mod Bytes
 pub mod Counts

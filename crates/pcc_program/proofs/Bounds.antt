@@ -15,6 +15,7 @@ use Rattle.c_tree.specs.Sizes.{array_bytes, bytes_of, frame_bound}
 use Rattle.c_typing.specs.Typed.{arrays_bytes, large_frame, most_arrays, most_frame, object_bytes}
 use Rattle.lower_lines.specs.Words.{FunctionHasWords}
 use Rattle.pcc_program.specs.LimitLaws.{KeepsWords, LimitsBound}
+use Rattle.lower_laws.proofs.Sizes.{count-small as elements-small}
 
 -- a limit that isn't passed, and then none of the others
 pub below-limit : (m n : ℕ) (l : Limit) (rest : Option Limit) → (if nat_lt m n then Some l else rest) ≡ None
@@ -31,11 +32,6 @@ frames-below k [] e = tt
 frames-below k (f ∷ fs) e =
     let h = below-limit most_frame (frame_bound f) _ (large_frame (suc k) fs) e in
     (h.0, frames-below (suc k) fs h.1)
-
-elements-small : (t : IntegerType) (n : ℕ) → n ≤ (n * bytes_of t + 3) / 4 * 4
-elements-small Char n = omega arith
-elements-small Short n = omega arith
-elements-small Int n = omega arith
 
 objects-few : (os : List StaticObject) (n : ℕ) → sum_by object_bytes os ≤ n → length os ≤ n
 objects-few [] n h = omega arith

@@ -17,6 +17,7 @@ use Rattle.lower_lines.specs.Words.{FunctionHasWords}
 use Rattle.ia32_select.specs.Sizes.{BlocksAreFew, most_bytes}
 use Rattle.pcc_program.specs.Code.{HasFrame}
 use Rattle.pcc_program.specs.CodeLaws.{GraphsHaveFrames}
+use Rattle.lower_laws.proofs.Sizes.{functions-few as few-functions}
 
 arrays-sum : (arrays : List (ℕ × ℕ)) → bytes_of_arrays arrays ≡ sum_by array_bytes arrays
 arrays-sum [] = refl
@@ -57,11 +58,6 @@ all-frames few functions objects (f ∷ fs) (flow ∷ flows) many made words gra
     (all-frames few functions objects fs flows (omega (arith, many)) (λ k g h e i. made (suc k) g h e i)
     (All-tail FunctionHasWords f fs words) (All-tail (IsGraph functions objects) flow flows graphs)
     (omega (arith, points, sum_by-cons points_in flow flows)))
-
--- each function counts one at least
-few-functions : (fs : List Function) → length fs ≤ sum_by function_size fs
-few-functions [] = omega arith
-few-functions (f ∷ fs) = omega (arith, few-functions fs, sum_by-cons function_size f fs)
 
 -- the bytes of many graphs, by their points, argument words and arrays
 most_bytes-all : (flows : List Flow) → sum_by most_bytes flows

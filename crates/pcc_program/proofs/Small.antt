@@ -6,21 +6,9 @@ use Rattle.c_syntax.specs.Grammar.{unit_tokens}
 use Rattle.c_syntax.specs.Statements.{ExternalTree}
 use Rattle.c_front.specs.Accepted.{HaveTrees, total}
 use Rattle.c_front.proofs.OneReading.{tokens_once}
-use Rattle.c_front.proofs.Units.{units_are_sources}
+use Rattle.c_front.proofs.Units.{units_are_sources, total_is as tokens_of_units}
 use Rattle.pcc_program.proofs.Files.{parts_have_tokens}
 use Rattle.pcc_program.specs.TokensLaws.{FilesBoundGraphs, TextsBoundGraphs}
-
--- the raw trees of files have the files' tokens
-tokens_of_units : (files : List (List Token)) (units : List (List ExternalTree)) → HaveTrees files units
-    → length (flat_map unit_tokens units) ≡ total files
-tokens_of_units [] [] trees = refl
-tokens_of_units [] (unit ∷ units) trees = absurd trees
-tokens_of_units (tokens ∷ files) [] trees = absurd trees
-tokens_of_units (tokens ∷ files) (unit ∷ units) ((height, low, tree), trees) =
-    let h = tokens_of_units files units trees in
-    let l = length-append (unit_tokens unit) (flat_map unit_tokens units) in
-    let n = subst (λ ts. length ts ≡ length tokens) tree.tokens_are refl in
-    omega (arith, h, l, n)
 
 pub files_bound_graphs : FilesBoundGraphs
 files_bound_graphs units p graphs sources typed small =

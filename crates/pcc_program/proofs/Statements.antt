@@ -34,16 +34,14 @@ use Rattle.c_typing.specs.Statements.{typed_labels, Around, in_loop, in_switch, 
 use Rattle.c_typing.specs.Statements.{condition_if_any, first_part, row_before, as_one, alone, one, for_loop}
 use Rattle.c_typing.specs.Statements.{typed_statement, typed_statements}
 use Rattle.c_typing.proofs.CountUp.{IfFits, holds_if, holds_both, holds_pair}
-use Rattle.c_check_laws.proofs.Ranges.{InRange, constant_int}
+use Rattle.c_check_laws.proofs.Ranges.{InRange, constant_int, fits_int}
 use Rattle.c_check_laws.proofs.Ranged.{HasInts}
 use Rattle.lower_lines.specs.Words.{HasWords, FirstHasWords, ItemHasWords, StatementHasWords, StatementsHaveWords}
 use Rattle.pcc_program.proofs.Expressions.{Fine, choice_fine, assigned_fine, cut, int_fits, expression_fine}
 use Rattle.pcc_program.proofs.Items.{holds_map, OptionFine, ItemsFine, items_total, declaration_fine}
+use Rattle.c_check_laws.proofs.Declaring.{row_size}
 
 -- ---- values of labels
-
-fits_int : (n : ℤ) → FitsSigned w32 n → IsInt n
-fits_int n h = (omega (arith, ints, h.sfits), omega (arith, ints, h.sfits))
 
 in_range : (e : Expression) → HasWords e → InRange e
 in_range (tree.Constant of n) h = fits_int n h
@@ -227,11 +225,6 @@ one_fine : (n : ℕ) (c : Checked Statement) → IfFits (OneFine n) c → IfFits
 one_fine n c h =
     holds_if (OneFine n) (ListFine n) c (λ st. fits (st ∷ [])) h
     (λ st x. let a = x.0 in (omega (arith, a), (x.1, tt)))
-
-row_size : (sts : List Statement) (rest : Statements)
-    → statements_size (row_before sts rest) ≡ list_size sts + statements_size rest
-row_size [] rest = omega arith
-row_size (st ∷ sts) rest = let h = row_size sts rest in omega (arith, h)
 
 row_words : (sts : List Statement) (rest : Statements) → AllByRecursion StatementHasWords sts
     → StatementsHaveWords rest → StatementsHaveWords (row_before sts rest)

@@ -144,7 +144,7 @@ with-new (e ∷ entries) v (suc i) place p other =
     (ap (λ more. e ∷ more) (with-new entries v i place (position-rest e entries v i p) other))
 
 -- what with_place makes, by its two tests
-with-by : Entry → List Entry → ℕ → Place → List Entry → Bool → Bool → List Entry
+pub with-by : Entry → List Entry → ℕ → Place → List Entry → Bool → Bool → List Entry
 with-by e entries v place more b c = cond b ((v, place) ∷ entries) (cond c ((v, place) ∷ e ∷ entries) (e ∷ more))
 
 all-with-by :

@@ -20,7 +20,7 @@ use Rattle.puzzle_board.proofs.Cells.{fits-clear, clear-comm}
 
 -- ---- tests
 
-share_column-comm : (c d : Columns) → share_column c d ≡ share_column d c
+pub share_column-comm : (c d : Columns) → share_column c d ≡ share_column d c
 share_column-comm Low Low = refl
 share_column-comm Low High = refl
 share_column-comm Low All = refl

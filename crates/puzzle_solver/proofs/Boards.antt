@@ -18,6 +18,7 @@ use Rattle.puzzle_solver.specs.Texts.{area_word, spaced}
 use Rattle.puzzle_solver.specs.Reading.{IsNoBoard, IsReadAs, area_of, fresh_board, is_newline, pieces_from, shape_of}
 use Rattle.puzzle_solver.specs.Reading.{shape_word, shapes_text, words_read}
 use Rattle.puzzle_solver.proofs.Read.{first-line, numbered-from, parts-are, shapes-of, shapes-read, words-from}
+use Rattle.puzzle_solver.proofs.Lines.{one-on}
 
 -- what is behind the first so many bytes
 rest-of : (xs : List ℕ) (n : ℕ) → take (length xs - n) (drop n xs) ≡ drop n xs
@@ -152,9 +153,6 @@ pub length-from :
 length-from n shapes zero h = refl
 length-from n [] (suc i) h = absurd (omega arith)
 length-from n (s ∷ shapes) (suc i) h = ap suc (length-from (suc n) shapes i (omega arith))
-
-one-on : (n i : ℕ) → suc n + i ≡ n + suc i
-one-on n i = omega arith
 
 none-less : (i : ℕ) → i ≡ 0 + i
 none-less i = omega arith

@@ -21,11 +21,11 @@ use Rattle.puzzle_solver.proofs.Onward.{onward-more, onward-none}
 next-mul : (n p : ℕ) → (n + 1) * p ≡ n * p + p
 next-mul n p = omega (arith, add-mul n 1 p)
 
-cond-zero : (b : Bool) → cond {A = ℕ} b 0 0 ≡ 0
+pub cond-zero : (b : Bool) → cond {A = ℕ} b 0 0 ≡ 0
 cond-zero true = refl
 cond-zero false = refl
 
-cond-next : (b : Bool) (n : ℕ) → cond {A = ℕ} b (n + 1) 0 ≡ cond b n 0 + cond b 1 0
+pub cond-next : (b : Bool) (n : ℕ) → cond {A = ℕ} b (n + 1) 0 ≡ cond b n 0 + cond b 1 0
 cond-next true n = refl
 cond-next false n = refl
 

@@ -14,7 +14,7 @@ use Rattle.puzzle_solver.specs.Texts.{line_of, lines_from}
 no-more : (n : ℕ) → n ≡ n + zero
 no-more n = omega arith
 
-one-on : (n i : ℕ) → suc n + i ≡ n + suc i
+pub one-on : (n i : ℕ) → suc n + i ≡ n + suc i
 one-on n i = omega arith
 
 none-less : (i : ℕ) → 0 + i ≡ i

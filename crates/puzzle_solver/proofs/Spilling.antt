@@ -35,7 +35,7 @@ without-next board [] i d within = absurd (omega arith)
 without-next board (v ∷ order) zero d within = refl
 without-next board (v ∷ order) (suc i) d within = without-next (without_variable board v) order i d (omega arith)
 
-without-areas : (board : Puzzle) (vs : List ℕ) → (without_variables board vs).areas ≡ board.areas
+pub without-areas : (board : Puzzle) (vs : List ℕ) → (without_variables board vs).areas ≡ board.areas
 without-areas board [] = refl
 without-areas board (v ∷ more) = without-areas (without_variable board v) more
 

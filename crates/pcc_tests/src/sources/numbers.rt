@@ -3,7 +3,7 @@
 ghost use Rattle.std.specs.Prelude.{◌<◌};
 
 use crate::sources::machine::{End, Machine, Value};
-use flow_graph::{Comparison, Op};
+use flow_graph::{Comparison, Op, Order};
 use pcc_base::{Trap, Width};
 
 /// The signed number of the low 8 bits.
@@ -31,6 +31,7 @@ fn count_of(n: i32) -> u32
 /// What an op makes of its number, which stands here twice, or of its two numbers, where it doesn't trap.
 fn result_of(op: &Op, x: i32, y: i32) -> Option<i32> {
     match op {
+        Op::Zero(_, _) => Some(i32::from(low_byte(x))),
         Op::Low(_, _) => Some(low_8(x)),
         Op::Low16(_, _) => Some(low_16(x)),
         Op::Neg(_, _) => Some(x.wrapping_neg()),
@@ -43,8 +44,19 @@ fn result_of(op: &Op, x: i32, y: i32) -> Option<i32> {
         Op::Xor(_, _, _) => Some(x ^ y),
         Op::Shl(_, _, _) => Some(x << count_of(y)),
         Op::Sar(_, _, _) => Some(x >> count_of(y)),
+        Op::Shr(_, _, _) => Some((x.cast_unsigned() >> count_of(y)).cast_signed()),
         Op::Div(_, _, _) => x.checked_div(y),
         Op::Rem(_, _, _) => x.checked_rem(y),
+        Op::Udiv(_, _, _) => Some(
+            x.cast_unsigned()
+                .checked_div(y.cast_unsigned())?
+                .cast_signed(),
+        ),
+        Op::Urem(_, _, _) => Some(
+            x.cast_unsigned()
+                .checked_rem(y.cast_unsigned())?
+                .cast_signed(),
+        ),
         _ => Some(x),
     }
 }
@@ -57,6 +69,16 @@ fn holds(how: Comparison, x: i32, y: i32) -> bool {
         Comparison::Le => x <= y,
         Comparison::Gt => x > y,
         Comparison::Ge => x >= y,
+    }
+}
+
+/// Whether two numbers without sign are so ordered.
+fn ordered(how: Order, x: u32, y: u32) -> bool {
+    match how {
+        Order::Lt => x < y,
+        Order::Le => x <= y,
+        Order::Gt => x > y,
+        Order::Ge => x >= y,
     }
 }
 
@@ -103,6 +125,13 @@ impl Machine<'_> {
             Some(number) => self.set_number(to, number),
             None => self.stop(End::Trapped(Trap::Divide)),
         }
+    }
+
+    /// Whether two variables are so ordered, as numbers without sign.
+    pub fn order(&mut self, how: Order, a: u32, b: u32) -> bool {
+        let x = self.number(a);
+        let y = self.number(b);
+        ordered(how, x.cast_unsigned(), y.cast_unsigned())
     }
 
     /// Whether two variables compare so.

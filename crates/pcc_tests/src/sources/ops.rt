@@ -18,8 +18,12 @@ impl Machine<'_> {
         match *op {
             Op::Const(to, number) => self.constant(to, number),
             Op::Copy(to, from) => self.copy(to, from),
-            Op::Wide(to, a) | Op::Low(to, a) | Op::Low16(to, a) | Op::Neg(to, a) | Op::Not(to, a) =>
-                self.compute(op, to, a, a),
+            Op::Wide(to, a)
+            | Op::Zero(to, a)
+            | Op::Low(to, a)
+            | Op::Low16(to, a)
+            | Op::Neg(to, a)
+            | Op::Not(to, a) => self.compute(op, to, a, a),
             Op::Add(to, a, b)
             | Op::Sub(to, a, b)
             | Op::Mul(to, a, b)
@@ -28,10 +32,17 @@ impl Machine<'_> {
             | Op::Xor(to, a, b)
             | Op::Shl(to, a, b)
             | Op::Sar(to, a, b)
+            | Op::Shr(to, a, b)
             | Op::Div(to, a, b)
-            | Op::Rem(to, a, b) => self.compute(op, to, a, b),
+            | Op::Rem(to, a, b)
+            | Op::Udiv(to, a, b)
+            | Op::Urem(to, a, b) => self.compute(op, to, a, b),
             Op::Set(how, to, a, b) => {
                 let holds = self.compare(how, a, b);
+                self.set_number(to, holds as i32);
+            }
+            Op::Setu(how, to, a, b) => {
+                let holds = self.order(how, a, b);
                 self.set_number(to, holds as i32);
             }
             Op::Frame(to, array) => self.set(to, Value::Array(self.frame_array(array))),
@@ -56,6 +67,10 @@ impl Machine<'_> {
             Op::Jump(block) => self.jump(block),
             Op::Branch(how, a, b, x, y) => {
                 let block = if self.compare(how, a, b) { x } else { y };
+                self.jump(block);
+            }
+            Op::Branchu(how, a, b, x, y) => {
+                let block = if self.order(how, a, b) { x } else { y };
                 self.jump(block);
             }
             Op::Return(from) => self.returns(from),

@@ -1,9 +1,10 @@
 use Rattle.ia32_laws.proofs.Standing.{blocks-stand}
 use Rattle.ia32_laws.proofs.Changing.{half-follows, low-follows}
-use Rattle.ia32_laws.proofs.Counting.{left-shift-follows, right-shift-follows}
-use Rattle.ia32_laws.proofs.Stopping.{quotient-follows, remainder-follows}
-use Rattle.ia32_laws.proofs.Choosing.{jump-follows, numbers-branch-follow}
-use Rattle.ia32_laws.proofs.Setting.{numbers-set-follow}
+use Rattle.ia32_laws.proofs.Counting.{left-shift-follows, right-shift-follows, unsigned-right-shift-follows}
+use Rattle.ia32_laws.proofs.Stopping.{quotient-follows, remainder-follows, unsigned-quotient-follows}
+use Rattle.ia32_laws.proofs.Stopping.{unsigned-remainder-follows}
+use Rattle.ia32_laws.proofs.Choosing.{jump-follows}
+use Rattle.ia32_laws.proofs.Comparing.{numbers-branch-follow, numbers-set-follow}
 use Rattle.ia32_laws.proofs.cores.rows_follow_steps.Goals as goal
 
 pub returns-clause-low : goal.returns-clause-low
@@ -35,3 +36,12 @@ returns-clause-jump c = jump-follows
 
 pub returns-clause-blocks : goal.returns-clause-blocks
 returns-clause-blocks c = blocks-stand
+
+pub returns-clause-shr : goal.returns-clause-shr
+returns-clause-shr c = unsigned-right-shift-follows
+
+pub returns-clause-udiv : goal.returns-clause-udiv
+returns-clause-udiv c = unsigned-quotient-follows
+
+pub returns-clause-urem : goal.returns-clause-urem
+returns-clause-urem c = unsigned-remainder-follows

@@ -1,5 +1,5 @@
 use Rattle.ia32_laws.proofs.Ops.{product-follows}
-use Rattle.ia32_laws.proofs.Changes.{complement-follows, extension-follows, negation-follows}
+use Rattle.ia32_laws.proofs.Changes.{complement-follows, extension-follows, negation-follows, zero-extension-follows}
 use Rattle.ia32_laws.proofs.Copies.{copy-follows}
 use Rattle.ia32_laws.proofs.Marks.{mark-follows, turn-follows}
 use Rattle.ia32_laws.proofs.Ops.{number-follows, sum-follows, difference-follows, and-follows, or-follows}
@@ -44,3 +44,6 @@ returns-clause-product c = product-follows
 
 pub returns-clause-extension : goal.returns-clause-extension
 returns-clause-extension c = extension-follows
+
+pub returns-clause-zero_extension : goal.returns-clause-zero_extension
+returns-clause-zero_extension c = zero-extension-follows
