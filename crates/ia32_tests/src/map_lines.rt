@@ -80,6 +80,10 @@ fn comparisons(rt: HostRuntime) {
         (Op::Set(Comparison::Le, 5, 6, 7), " set le 5 6 7"),
         (Op::Set(Comparison::Gt, 5, 6, 7), " set gt 5 6 7"),
         (Op::Set(Comparison::Ge, 5, 6, 7), " set ge 5 6 7"),
+        (Op::Setu(Order::Lt, 5, 6, 7), " setu lt 5 6 7"),
+        (Op::Setu(Order::Le, 5, 6, 7), " setu le 5 6 7"),
+        (Op::Setu(Order::Gt, 5, 6, 7), " setu gt 5 6 7"),
+        (Op::Setu(Order::Ge, 5, 6, 7), " setu ge 5 6 7"),
         (Op::Same(8, 9), " same 8 9"),
     ];
     expect_ops(&rt, rt.alloc(), &rows);
