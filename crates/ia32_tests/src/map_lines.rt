@@ -88,10 +88,6 @@ fn comparisons(rt: HostRuntime) {
     ];
     expect_ops(&rt, rt.alloc(), &rows);
     let rows = [
-        (Op::Setu(Order::Lt, 5, 6, 7), " setu lt 5 6 7"),
-        (Op::Setu(Order::Le, 5, 6, 7), " setu le 5 6 7"),
-        (Op::Setu(Order::Gt, 5, 6, 7), " setu gt 5 6 7"),
-        (Op::Setu(Order::Ge, 5, 6, 7), " setu ge 5 6 7"),
     ];
     expect_ops(&rt, rt.alloc(), &rows);
 }
