@@ -87,9 +87,6 @@ fn comparisons(rt: HostRuntime) {
         (Op::Same(8, 9), " same 8 9"),
     ];
     expect_ops(&rt, rt.alloc(), &rows);
-    let rows = [
-    ];
-    expect_ops(&rt, rt.alloc(), &rows);
 }
 
 /// Arrays and static objects.
