@@ -16,11 +16,16 @@ use Rattle.lower_lines.specs.Parts.{Part}
 use Rattle.lower_lines.specs.Variables.{Spot}
 use Rattle.lower_laws.proofs.Summing.{sums-lower, turned-sums}
 use Rattle.lower_laws.specs.PointersLaws.{IndexesAreAddressed, TurnedAreAddressed}
-use Rattle.lower_laws.proofs.ExpressionAddresses.{again-same}
 
 -- a pointer is the address of what it goes to
 abbrev again : Evaluated Held → Evaluated Held
 again r = and_then r (λ v u. Gives (address_of (evaluation.target_of v)) u)
+
+again-same : (S : Site) (active : List Function) (t : IntegerType) (r : Evaluated Held)
+    → GivesOf S.program active (Pointer t) r → again r ≡ r
+again-same S active t (Gives (HoldsNumber n) u) typed = absurd typed
+again-same S active t (Gives (HoldsPointer array index) u) typed = refl
+again-same S active t (Ends end u) typed = refl
 
 third-same : (r : Evaluated Held)
     → and_then (and_then r (λ v w. Gives (evaluation.target_of v) w)) (λ found w. Gives (address_of found) w) ≡ again r

@@ -18,7 +18,7 @@ abbrev again : Evaluated Held → Evaluated Held
 again r = and_then (and_then r (λ v u. Gives (evaluation.target_of v) u))
     (λ found u. Gives (evaluation.address_of found) u)
 
-pub again-same : (S : Site) (active : List Function) (t : IntegerType) (r : Evaluated Held)
+again-same : (S : Site) (active : List Function) (t : IntegerType) (r : Evaluated Held)
     → GivesOf S.program active (Pointer t) r → again r ≡ r
 again-same S active t (Gives (HoldsNumber n) u) typed = absurd typed
 again-same S active t (Gives (HoldsPointer array index) u) typed = refl
