@@ -65,11 +65,11 @@ def fixed_of(op):
     """The operand and the result that an op fixes, each with its register, and the rows of registers that it takes besides: u the upper,
     l the lower."""
     reads, writes = op.reads, op.writes
-    if op.name in ("shl", "sar"):
+    if op.name in ("shl", "sar", "shr"):
         return {reads[1]: "cl"}, {}, {}
-    if op.name == "div":
+    if op.name in ("div", "udiv"):
         return {reads[0]: "eax"}, {writes: "eax"}, {"edx": "ul"}
-    if op.name == "rem":
+    if op.name in ("rem", "urem"):
         return {reads[0]: "eax"}, {writes: "edx"}, {"eax": "l", "edx": "u"}
     if op.name in ("call", "putchar", "getchar") and writes is not None:
         return {}, {writes: "eax"}, {"ecx": "l", "edx": "l"}

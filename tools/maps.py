@@ -16,18 +16,22 @@ SLOT = re.compile(r"\[ebp-([1-9][0-9]*)\]\Z")
 WORDS = ("eax", "ebx", "ecx", "edx")
 BYTES = ("al", "bl", "cl", "dl", "ah", "bh", "ch", "dh")
 COMPARISONS = ("eq", "ne", "lt", "le", "gt", "ge")
+ORDERS = ("lt", "le", "gt", "ge")
 
 # For each op the parts of its text. Of a variable: `d` is written, `a` is read; a digit is its width, and `x` means either, alike for
 # both. `n` is a signed number, `k` a frame array, `o` an object, `w` an argument word, `s` a statement, `b` a block, `c` a comparison,
-# `W` the bits of an element.
+# `u` an order of numbers without sign, `W` the bits of an element.
 OPS = {
-    "const": "dx n", "copy": "dx ax", "wide": "d2 a1", "low": "d1 a2", "low16": "d2 a2", "neg": "d2 a2", "not": "d2 a2",
-    **{op: "d2 a2 a2" for op in ("add", "sub", "mul", "and", "or", "xor", "div", "rem")},
-    "shl": "d2 a2 a1", "sar": "d2 a2 a1", "set": "c d2 a2 a2", "frame": "d2 k", "static": "d2 o", "load": "W d2 a2 a2",
+    "const": "dx n", "copy": "dx ax", "wide": "d2 a1", "zero": "d2 a1", "low": "d1 a2", "low16": "d2 a2", "neg": "d2 a2",
+    "not": "d2 a2",
+    **{op: "d2 a2 a2" for op in ("add", "sub", "mul", "and", "or", "xor", "div", "rem", "udiv", "urem")},
+    **{op: "d2 a2 a1" for op in ("shl", "sar", "shr")},
+    "set": "c d2 a2 a2", "setu": "u d2 a2 a2", "frame": "d2 k", "static": "d2 o", "load": "W d2 a2 a2",
     "store": "W a2 a2 a2", "get": "W d2 o", "put": "W o a2", "clear": "k", "param": "d2 w", "putchar": "d2 a2", "getchar": "d2",
     "exit": "a2", "same": "a2 a2", "mark": "s", "turn": "", "jump": "b", "branch": "c a2 a2 b b",
+    "branchu": "u a2 a2 b b",
 }
-ENDS = ("jump", "branch", "return", "exit")
+ENDS = ("jump", "branch", "branchu", "return", "exit")
 
 
 class NotMap(Exception):
@@ -262,7 +266,9 @@ class Reader:
                 found.reads.append(v)
         elif part == "n":
             signed(word, self.at)
-        elif part == "c" and word not in COMPARISONS or part == "W" and word not in ("8", "16", "32"):
+        elif part == "c" and word not in COMPARISONS or part == "u" and word not in ORDERS:
+            raise NotMap(self.at, f"`{word}`")
+        elif part == "W" and word not in ("8", "16", "32"):
             raise NotMap(self.at, f"`{word}`")
         elif part == "b":
             found.blocks.append(number(word, self.at, blocks - 1))

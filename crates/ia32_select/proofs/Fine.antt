@@ -14,6 +14,7 @@ use Rattle.ia32_insn.specs.Places.{Place, InWord, InByte, InSlot, IsGeneral}
 use Rattle.ia32_insn.specs.declared.operand.Mem.{Mem}
 use Rattle.ia32_insn.specs.declared.operand.Rm32.{Rm32}
 use Rattle.ia32_insn.specs.declared.operand.Rm32.TheVariants as rm
+use Rattle.ia32_insn.specs.declared.operand.Rm8.{Rm8}
 use Rattle.ia32_insn.specs.declared.operand.Rm8.TheVariants as rm8
 use Rattle.ia32_insn.specs.declared.insn.AluOp.{AluOp}
 use Rattle.ia32_insn.specs.declared.insn.AluOp.TheVariants as alu
@@ -24,18 +25,19 @@ use Rattle.ia32_insn.specs.declared.insn.ShiftOp.{ShiftOp}
 use Rattle.ia32_insn.specs.declared.item.Item.{Item}
 use Rattle.ia32_insn.specs.declared.item.Item.TheVariants as item
 use Rattle.ia32_insn.specs.Items.{near, plain}
+use Rattle.ia32_insn.specs.Spelling.{Operand, operand32, operand8}
 use Rattle.flow_graph.specs.declared.op.Bits.{Bits}
 use Rattle.flow_graph.specs.declared.op.Bits.TheVariants.{Eight, Sixteen, ThirtyTwo}
 use Rattle.flow_graph.specs.Meaning.{bytes_of}
 use Rattle.flow_graph.proofs.Numbers.{signed-fits}
-use Rattle.ia32_asm.specs.Parts.{IsInRange, IsIndex, IsIndexed}
+use Rattle.ia32_asm.specs.Parts.{HasIndex, IsInRange, IsIndex, IsIndexed, IsOperand}
 use Rattle.ia32_rows.specs.Placements.{below}
 use Rattle.ia32_rows.specs.Rows.{scratch, read, write, operate, working, has_operand, target_of, number_row, copy_row}
 use Rattle.ia32_rows.specs.Rows.{is_at, is_in, by_register, in_slot, operation, commuting, sum_of, adding, pass}
-use Rattle.ia32_rows.specs.Rows.{multiply, product_of, multiplying, changing, low_byte, extend}
-use Rattle.ia32_rows.specs.Rows.{widening}
+use Rattle.ia32_rows.specs.Rows.{multiply, product_of, multiplying, changing, low_byte, byte_operand, extend, widening}
 use Rattle.ia32_rows.specs.Rows.{lowering, extend_half, halving, into_count, shifted_in, shifting, clear_divisor}
-use Rattle.ia32_rows.specs.Rows.{divisor_of, before_division, dividing, comparing, set_row, argument_word, leave}
+use Rattle.ia32_rows.specs.Rows.{divisor_of, before_division, dividing, comparing, set_row, setting, argument_word}
+use Rattle.ia32_rows.specs.Rows.{leave}
 use Rattle.ia32_rows.specs.Rows.{return_row, loading, storing, store_at, store_to, index_register, element}
 use Rattle.ia32_rows.proofs.ItemKinds.{either-way, all-append}
 
@@ -230,36 +232,33 @@ changing-fine how p q fine h k =
     written 2 (read t q ++ change) p t
     (join IsFine 1 1 (read t q) change (read-fine t q k) ((fine t, tt), omega arith)) h
 
-extend-fine : (t : Reg32) (p : Place) → IsNear p → AreFine 1 (extend t p)
-extend-fine t (InWord r) h = one 0 (insn.MovSx8 t (rm8.Reg (low_byte r))) tt tt
-extend-fine t (InByte r) h = one 0 (insn.MovSx8 t (rm8.Reg r)) tt tt
-extend-fine t (InSlot k) h = one 0 (insn.MovSx8 t (rm8.Mem (below k))) (fits-below k h) tt
+-- the operand can be named
+abbrev pub IsNamed : Operand → Type 0
+IsNamed operand = IsOperand operand × HasIndex operand
 
-pub widening-fine : (p q : Place) → IsNear p → IsNear q → AreFine 3 (widening p q)
-widening-fine p q h k =
-    written 1 (extend (target_of p) q) p (target_of p) (extend-fine (target_of p) q k) h
+byte-named : (p : Place) → IsNear p → IsNamed (operand8 (byte_operand p))
+byte-named (InWord r) h = (tt, tt)
+byte-named (InByte r) h = (tt, tt)
+byte-named (InSlot k) h = (fits-below k h, tt)
 
-wider : (n : ℕ) (items : List Item) → AreFine n items → AreFine (suc n) items
-wider n items h = (h.0, more (length items) n h.1)
-  where
-    more : (x n : ℕ) → x ≤ n → x ≤ suc n
-    more x n h = omega arith
+pub widening-fine : (how : Reg32 → Rm8 → Insn) (p q : Place)
+    → ((t : Reg32) (o : Rm8) → IsNamed (operand8 o) → IsFine (plain (how t o))) → IsNear p → IsNear q
+    → AreFine 3 (widening how p q)
+widening-fine how p q fine h k =
+    let t : Reg32 = target_of p in
+    written 1 (extend how t q) p t ((fine t (byte_operand q) (byte-named q k), tt), omega arith) h
 
-pub lowering-fine : (p q : Place) → IsNear p → IsNear q → AreFine 3 (lowering p q)
-lowering-fine (InWord r) q h k = wider 2 (copy_row q (InWord r)) (copy-fine q (InWord r) k h)
-lowering-fine (InByte r) (InWord q) h k =
-    wider 2 (copy_row (InByte (low_byte q)) (InByte r)) (copy-fine (InByte (low_byte q)) (InByte r) tt tt)
-lowering-fine (InByte r) (InByte q) h k = wider 2 (copy_row (InByte q) (InByte r))
-    (copy-fine (InByte q) (InByte r) tt tt)
-lowering-fine (InByte r) (InSlot b) h k =
-    written 1 (read Esi (InSlot b)) (InByte r) Esi (read-fine Esi (InSlot b) k) tt
-lowering-fine (InSlot b) q h k = wider 2 (copy_row q (InSlot b)) (copy-fine q (InSlot b) k h)
+pub lowering-fine : (p q : Place) → IsNear p → IsNear q → AreFine 2 (lowering p q)
+lowering-fine (InWord r) q h k = copy-fine q (InWord r) k h
+lowering-fine (InByte r) (InWord q) h k = copy-fine (InByte (low_byte q)) (InByte r) tt tt
+lowering-fine (InByte r) (InByte q) h k = copy-fine (InByte q) (InByte r) tt tt
+lowering-fine (InByte r) (InSlot b) h k = one 1 (insn.Mov8Load r (below b)) (fits-below b k) tt
+lowering-fine (InSlot b) q h k = copy-fine q (InSlot b) k h
 
 half-fine : (t : Reg32) (p : Place) → IsNear p → AreFine 2 (extend_half t p)
 half-fine t (InWord r) h = one 1 (insn.MovSx16 t (rm.Reg r)) tt tt
 half-fine t (InByte r) h = two 0 (insn.MovSx8 t (rm8.Reg r)) (insn.MovSx16 t (rm.Reg t)) (tt, tt) (tt, tt)
-half-fine t (InSlot k) h =
-    two 0 (insn.MovLoad t (below k)) (insn.MovSx16 t (rm.Reg t)) (fits-below k h, tt) (tt, tt)
+half-fine t (InSlot k) h = one 1 (insn.MovSx16 t (rm.Mem (below k))) (fits-below k h) tt
 
 pub halving-fine : (p q : Place) → IsNear p → IsNear q → AreFine 4 (halving p q)
 halving-fine p q h k = written 2 (extend_half (target_of p) q) p (target_of p) (half-fine (target_of p) q k) h
@@ -286,24 +285,32 @@ clear-fine (InWord r) h =
 clear-fine (InByte r) h = one 0 (insn.MovSx8 Esi (rm8.Reg r)) tt tt
 clear-fine (InSlot k) h = none 1
 
-divide-fine : (p : Place) → IsNear p → IsFine (plain (insn.IDiv (divisor_of p)))
-divide-fine (InWord r) h =
-    either-way (λ (o : Rm32). IsFine (plain (insn.IDiv o))) (number32 r == number32 Eax || number32 r == number32 Edx)
+divisor-named : (p : Place) → IsNear p → IsNamed (operand32 (divisor_of p))
+divisor-named (InWord r) h =
+    either-way (λ (o : Rm32). IsNamed (operand32 o)) (number32 r == number32 Eax || number32 r == number32 Edx)
     (rm.Reg Esi) (rm.Reg r) (tt, tt) (tt, tt)
-divide-fine (InByte r) h = (tt, tt)
-divide-fine (InSlot k) h = (fits-below k h, tt)
+divisor-named (InByte r) h = (tt, tt)
+divisor-named (InSlot k) h = (fits-below k h, tt)
 
-pub dividing-fine : (part : Reg32) (p q r : Place) → IsNear p → IsNear q → IsNear r → AreFine 6 (dividing part p q r)
-dividing-fine part p q r h k l =
-    let sign : List Item = plain insn.Cdq ∷ [] in
-    let divide : List Item = plain (insn.IDiv (divisor_of r)) ∷ [] in
-    written 4 (before_division q r ++ divide) p part
-    (join IsFine 3 1 (before_division q r) divide
-    (join IsFine 2 1 (clear_divisor r ++ read Eax q) sign
-    (join IsFine 1 1 (clear_divisor r) (read Eax q) (clear-fine r l) (read-fine Eax q k)) (one 0 insn.Cdq tt tt))
-    ((divide-fine r l, tt), omega arith)) h
+pub dividing-fine : (upper : Insn) (divide : Rm32 → Insn) (part : Reg32) (p q r : Place) → IsFine (plain upper)
+    → ((o : Rm32) → IsNamed (operand32 o) → IsFine (plain (divide o))) → IsNear p → IsNear q → IsNear r
+    → AreFine 6 (dividing upper divide part p q r)
+dividing-fine upper divide part p q r above fine h k l =
+    let makes : List Item = plain upper ∷ [] in
+    let divides : List Item = plain (divide (divisor_of r)) ∷ [] in
+    written 4 (before_division upper q r ++ divides) p part
+    (join IsFine 3 1 (before_division upper q r) divides
+    (join IsFine 2 1 (clear_divisor r ++ read Eax q) makes
+    (join IsFine 1 1 (clear_divisor r) (read Eax q) (clear-fine r l) (read-fine Eax q k)) ((above, tt), omega arith))
+    ((fine (divisor_of r) (divisor-named r l), tt), omega arith)) h
 
 -- ---- comparisons
+
+wider : (n : ℕ) (items : List Item) → AreFine n items → AreFine (suc n) items
+wider n items h = (h.0, more (length items) n h.1)
+  where
+    more : (x n : ℕ) → x ≤ n → x ≤ suc n
+    more x n h = omega arith
 
 pub comparing-fine : (p q : Place) → IsNear p → IsNear q → AreFine 3 (comparing p q)
 comparing-fine (InWord r) q h k = wider 2 (operate alu.Cmp r q) (operate-fine alu.Cmp r q k)
@@ -318,13 +325,17 @@ comparing-fine (InSlot b) (InSlot c) h k =
     join IsFine 1 2 (read Esi (InSlot b)) (operate alu.Cmp Esi (InSlot c)) (read-fine Esi (InSlot b) h)
     (operate-fine alu.Cmp Esi (InSlot c) k)
 
-pub set-fine : (c : Cond) (p : Place) → IsNear p → AreFine 3 (set_row c p)
+set-fine : (c : Cond) (p : Place) → IsNear p → AreFine 3 (set_row c p)
 set-fine c (InWord r) h =
     two 1 (insn.SetCc c (rm8.Reg (low_byte r))) (insn.MovZx8 r (rm8.Reg (low_byte r))) (tt, tt) (tt, tt)
 set-fine c (InByte r) h = one 2 (insn.SetCc c (rm8.Reg r)) tt tt
 set-fine c (InSlot k) h =
     three (insn.SetCc c (rm8.Mem (below k))) (insn.MovZx8 Esi (rm8.Mem (below k))) (insn.Mov (rm.Mem (below k)) Esi)
     (fits-below k h, tt) (fits-below k h, tt) (fits-below k h, tt)
+
+pub setting-fine : (c : Cond) (p q r : Place) → IsNear p → IsNear q → IsNear r → AreFine 6 (setting c p q r)
+setting-fine c p q r h k l =
+    join IsFine 3 3 (comparing q r) (set_row c p) (comparing-fine q r k l) (set-fine c p h)
 
 -- ---- a function's last items, and argument words
 

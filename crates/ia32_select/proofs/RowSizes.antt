@@ -38,8 +38,8 @@ use Rattle.ia32_rows.specs.Filling.{fill}
 use Rattle.ia32_rows.specs.Placements.{below}
 use Rattle.ia32_rows.specs.Rows.{items_between, read, target_of, write, number_row, copy_row, operation, commuting, adding}
 use Rattle.ia32_rows.specs.Rows.{multiplying, changing, widening, lowering, halving, shifting, dividing, comparing}
-use Rattle.ia32_rows.specs.Rows.{choosing, cond_of, jumping, zeroing}
-use Rattle.ia32_rows.specs.Rows.{set_row, pass, pass_all, argument_word, deepen, undeepen, drop_words, write_any}
+use Rattle.ia32_rows.specs.Rows.{branching, choosing, cond_of, cond_of_order, jumping, zeroing}
+use Rattle.ia32_rows.specs.Rows.{setting, zero_edx, pass, pass_all, argument_word, deepen, undeepen, drop_words, write_any}
 use Rattle.ia32_rows.specs.Rows.{before_call, behind_call, call_row, leave, return_row, prologue, size_of}
 use Rattle.ia32_rows.specs.Rows.{clear_row, loading, load_from, store_to, index_register, count_before, element}
 use Rattle.ia32_rows.specs.Rows.{check_array, check_index, checking, load_row, store_at, store_row}
@@ -49,7 +49,7 @@ use Rattle.ia32_select.proofs.Fine.{commuting-fine}
 use Rattle.ia32_select.proofs.Fine.{comparing-fine, copy-fine, dividing-fine, element-index, fits-below, fits-near}
 use Rattle.ia32_select.proofs.Fine.{halving-fine, join, leaves, loading-fine, lowering-fine, multiplying-fine}
 use Rattle.ia32_select.proofs.Fine.{number-fine}
-use Rattle.ia32_select.proofs.Fine.{operation-fine, pass-fine, read-fine, return-fine, set-fine, shifting-fine}
+use Rattle.ia32_select.proofs.Fine.{operation-fine, pass-fine, read-fine, return-fine, setting-fine, shifting-fine}
 use Rattle.ia32_select.proofs.Fine.{store_at-fine, store_to-fine, widening-fine, write-fine}
 use Rattle.ia32_select.proofs.Short.{items-short, pass_all-short}
 
@@ -107,14 +107,20 @@ pub record IsFitRow (whole : List Item) (functions objects most words : ℕ) (it
 abbrev pub most_row : Op → ℕ
 most_row (op.Jump x) = 640
 most_row (op.Branch how a b x y) = 640
+most_row (op.Branchu how a b x y) = 640
 most_row o = 200
 
--- the labels that an op's row jumps to stand there: that of a detour, where it has one
-abbrev pub LabelsStand : List Item → ℕ → (ℕ → List Item) → Op → Type 0
-LabelsStand whole label moves (op.Jump x) = Stands (item.Label x) whole
-LabelsStand whole label moves (op.Branch how a b x y) =
+-- the labels of a branch's two ways stand there, and that of a detour, where the first has moves
+abbrev pub WaysStand : List Item → ℕ → (ℕ → List Item) → ℕ → ℕ → Type 0
+WaysStand whole label moves x y =
     Stands (item.Label x) whole × Stands (item.Label y) whole
     × ((move : Item) (rest : List Item) → moves x ≡ move ∷ rest → Stands (item.Label label) whole)
+
+-- the labels that an op's row jumps to stand there
+abbrev pub LabelsStand : List Item → ℕ → (ℕ → List Item) → Op → Type 0
+LabelsStand whole label moves (op.Jump x) = Stands (item.Label x) whole
+LabelsStand whole label moves (op.Branch how a b x y) = WaysStand whole label moves x y
+LabelsStand whole label moves (op.Branchu how a b x y) = WaysStand whole label moves x y
 LabelsStand whole label moves (op.Clear k) = Stands (item.Label label) whole
 LabelsStand whole label moves o = ⊤
 
@@ -122,6 +128,8 @@ LabelsStand whole label moves o = ⊤
 abbrev pub MovesFit : List Item → ℕ → ℕ → (ℕ → List Item) → Op → Type 0
 MovesFit whole functions objects moves (op.Jump x) = Within (IsGood whole functions objects) 24 (moves x)
 MovesFit whole functions objects moves (op.Branch how a b x y) =
+    Within (IsGood whole functions objects) 24 (moves x) × Within (IsGood whole functions objects) 24 (moves y)
+MovesFit whole functions objects moves (op.Branchu how a b x y) =
     Within (IsGood whole functions objects) 24 (moves x) × Within (IsGood whole functions objects) 24 (moves y)
 MovesFit whole functions objects moves o = ⊤
 
@@ -373,6 +381,28 @@ module _ (whole : List Item) (functions objects : ℕ) where
       counted : (w a b : ℕ) → w ≡ a + (0 + b) → a ≤ 293 → b ≤ 293 → 6 + w ≤ 592
       counted w a b e h k = omega arith
 
+  -- a comparison, and both ways behind it
+  branching-fits : (c : Cond) (label x y : ℕ) (moves : ℕ → List Item) (p q : Place) → IsNear p → IsNear q
+      → WaysStand whole label moves x y → Within (IsGood whole functions objects) 24 (moves x)
+      → Within (IsGood whole functions objects) 24 (moves y)
+      → IsFitRow whole functions objects 640 0 (branching c label p q (moves x) (moves y) x y)
+  branching-fits c label x y moves p q h k labels to_x to_y =
+      let compare : List Item = comparing p q in
+      let ends : List Item = choosing c label (moves x) (moves y) x y in
+      let exact = good 3 compare (comparing-fine p q h k) in
+      let both_size = items_size-append compare ends in
+      let short = items-short compare in
+      record {
+        good = all-append (IsGood whole functions objects) compare ends
+            (all-good whole functions objects compare exact.0)
+            (choosing-good c label x y (moves x) (moves y) to_x.0 to_y.0 labels.0 labels.1 labels.2);
+        small = counted (items_size (compare ++ ends)) (items_size compare) (items_size ends) (length compare) both_size
+            short exact.1 (choosing-size c label x y (moves x) (moves y) to_x.1 to_y.1);
+      }
+    where
+      counted : (w c e n : ℕ) → w ≡ c + e → c ≤ 12 * n → n ≤ 3 → e ≤ 592 → w ≤ 640
+      counted w c e n h i j k = omega arith
+
   -- ---- ops
 
   pub row-fits : (label : ℕ) (moves : ℕ → List Item) (arrays : List (ℕ × ℕ)) (distances : List ℕ)
@@ -388,9 +418,13 @@ module _ (whole : List Item) (functions objects : ℕ) where
   row-fits label moves arrays distances before after (op.Copy d s) b a k numbers names labels going few =
       fits-fine 0 2 (copy_row (before s) (after d)) (omega arith) (copy-fine (before s) (after d) (b s) (a d))
   row-fits label moves arrays distances before after (op.Wide d s) b a k numbers names labels going few =
-      fits-fine 0 3 (widening (after d) (before s)) (omega arith) (widening-fine (after d) (before s) (a d) (b s))
+      fits-fine 0 3 (widening insn.MovSx8 (after d) (before s)) (omega arith)
+      (widening-fine insn.MovSx8 (after d) (before s) (λ t o h. h) (a d) (b s))
+  row-fits label moves arrays distances before after (op.Zero d s) b a k numbers names labels going few =
+      fits-fine 0 3 (widening insn.MovZx8 (after d) (before s)) (omega arith)
+      (widening-fine insn.MovZx8 (after d) (before s) (λ t o h. h) (a d) (b s))
   row-fits label moves arrays distances before after (op.Low d s) b a k numbers names labels going few =
-      fits-fine 0 3 (lowering (after d) (before s)) (omega arith) (lowering-fine (after d) (before s) (a d) (b s))
+      fits-fine 0 2 (lowering (after d) (before s)) (omega arith) (lowering-fine (after d) (before s) (a d) (b s))
   row-fits label moves arrays distances before after (op.Low16 d s) b a k numbers names labels going few =
       fits-fine 0 4 (halving (after d) (before s)) (omega arith) (halving-fine (after d) (before s) (a d) (b s))
   row-fits label moves arrays distances before after (op.Neg d s) b a k numbers names labels going few =
@@ -423,18 +457,27 @@ module _ (whole : List Item) (functions objects : ℕ) where
   row-fits label moves arrays distances before after (op.Sar d x y) b a k numbers names labels going few =
       fits-fine 0 5 (shifting shift.Sar (after d) (before x) (before y)) (omega arith)
       (shifting-fine shift.Sar (after d) (before x) (before y) (a d) (b x) (b y))
+  row-fits label moves arrays distances before after (op.Shr d x y) b a k numbers names labels going few =
+      fits-fine 0 5 (shifting shift.Shr (after d) (before x) (before y)) (omega arith)
+      (shifting-fine shift.Shr (after d) (before x) (before y) (a d) (b x) (b y))
   row-fits label moves arrays distances before after (op.Div d x y) b a k numbers names labels going few =
-      fits-fine 0 6 (dividing Eax (after d) (before x) (before y)) (omega arith)
-      (dividing-fine Eax (after d) (before x) (before y) (a d) (b x) (b y))
+      fits-fine 0 6 (dividing insn.Cdq insn.IDiv Eax (after d) (before x) (before y)) (omega arith)
+      (dividing-fine insn.Cdq insn.IDiv Eax (after d) (before x) (before y) (tt, tt) (λ o h. h) (a d) (b x) (b y))
   row-fits label moves arrays distances before after (op.Rem d x y) b a k numbers names labels going few =
-      fits-fine 0 6 (dividing Edx (after d) (before x) (before y)) (omega arith)
-      (dividing-fine Edx (after d) (before x) (before y) (a d) (b x) (b y))
+      fits-fine 0 6 (dividing insn.Cdq insn.IDiv Edx (after d) (before x) (before y)) (omega arith)
+      (dividing-fine insn.Cdq insn.IDiv Edx (after d) (before x) (before y) (tt, tt) (λ o h. h) (a d) (b x) (b y))
+  row-fits label moves arrays distances before after (op.Udiv d x y) b a k numbers names labels going few =
+      fits-fine 0 6 (dividing zero_edx insn.Div Eax (after d) (before x) (before y)) (omega arith)
+      (dividing-fine zero_edx insn.Div Eax (after d) (before x) (before y) (tt, tt) (λ o h. h) (a d) (b x) (b y))
+  row-fits label moves arrays distances before after (op.Urem d x y) b a k numbers names labels going few =
+      fits-fine 0 6 (dividing zero_edx insn.Div Edx (after d) (before x) (before y)) (omega arith)
+      (dividing-fine zero_edx insn.Div Edx (after d) (before x) (before y) (tt, tt) (λ o h. h) (a d) (b x) (b y))
   row-fits label moves arrays distances before after (op.Set how d x y) b a k numbers names labels going few =
-      let compare : List Item = comparing (before x) (before y) in
-      let set : List Item = set_row (cond_of how) (after d) in
-      fits-fine 0 6 (compare ++ set) (omega arith)
-      (join IsFine 3 3 compare set (comparing-fine (before x) (before y) (b x) (b y))
-      (set-fine (cond_of how) (after d) (a d)))
+      fits-fine 0 6 (setting (cond_of how) (after d) (before x) (before y)) (omega arith)
+      (setting-fine (cond_of how) (after d) (before x) (before y) (a d) (b x) (b y))
+  row-fits label moves arrays distances before after (op.Setu how d x y) b a k numbers names labels going few =
+      fits-fine 0 6 (setting (cond_of_order how) (after d) (before x) (before y)) (omega arith)
+      (setting-fine (cond_of_order how) (after d) (before x) (before y) (a d) (b x) (b y))
   row-fits label moves arrays distances before after (op.Param d n) b a k numbers names labels going few =
       let t : Reg32 = target_of (after d) in
       fits 0 3 (plain (insn.MovLoad t (argument_word n)) ∷ write (after d) t) (omega arith)
@@ -482,21 +525,9 @@ module _ (whole : List Item) (functions objects : ℕ) where
       let size = jumping-size (moves x) x going.1 in
       record { good = jumping-good (moves x) x going.0 labels; small = omega (arith, size) }
   row-fits label moves arrays distances before after (op.Branch how p q x y) b a k numbers names labels going few =
-      let compare : List Item = comparing (before p) (before q) in
-      let ends : List Item = choosing (cond_of how) label (moves x) (moves y) x y in
-      let exact = good 3 compare (comparing-fine (before p) (before q) (b p) (b q)) in
-      let both_size = items_size-append compare ends in
-      let short = items-short compare in
-      record {
-        good = all-append (IsGood whole functions objects) compare ends
-            (all-good whole functions objects compare exact.0)
-            (choosing-good (cond_of how) label x y (moves x) (moves y) going.0.0 going.1.0 labels.0 labels.1 labels.2);
-        small = counted (items_size (compare ++ ends)) (items_size compare) (items_size ends) (length compare) both_size
-            short exact.1 (choosing-size (cond_of how) label x y (moves x) (moves y) going.0.1 going.1.1);
-      }
-    where
-      counted : (w c e n : ℕ) → w ≡ c + e → c ≤ 12 * n → n ≤ 3 → e ≤ 592 → w ≤ 640
-      counted w c e n h i j k = omega arith
+      branching-fits (cond_of how) label x y moves (before p) (before q) (b p) (b q) labels going.0 going.1
+  row-fits label moves arrays distances before after (op.Branchu how p q x y) b a k numbers names labels going few =
+      branching-fits (cond_of_order how) label x y moves (before p) (before q) (b p) (b q) labels going.0 going.1
   row-fits label moves arrays distances before after (op.Return (Some v)) b a k numbers names labels going few =
       fits-fine 0 6 (return_row (before v)) (omega arith) (return-fine (before v) (b v))
   row-fits label moves arrays distances before after (op.Return None) b a k numbers names labels going few =

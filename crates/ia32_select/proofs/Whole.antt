@@ -10,11 +10,11 @@ use Rattle.std.proofs.lemmas.Option.{none-some, same_Some, slice_get_within, get
 use Rattle.ia32_insn.specs.Places.{Place, InWord, InByte, InSlot}
 use Rattle.ia32_insn.specs.declared.register_names.Reg32.TheVariants.{Esp, Esi, Edi}
 use Rattle.ia32_insn.specs.declared.operand.Rm32.TheVariants as rm
+use Rattle.ia32_insn.specs.declared.insn.Cond.{Cond}
 use Rattle.ia32_insn.specs.declared.insn.Insn.{Insn}
 use Rattle.ia32_insn.specs.declared.insn.Insn.TheVariants as insn
 use Rattle.ia32_insn.specs.declared.item.Item.{Item}
 use Rattle.ia32_insn.specs.declared.item.Item.TheVariants as item
-use Rattle.flow_graph.specs.declared.op.Comparison.{Comparison}
 use Rattle.flow_graph.specs.declared.op.Op.{Op}
 use Rattle.flow_graph.specs.declared.op.Op.TheVariants as op
 use Rattle.flow_graph.specs.Graphs.{Flow, FitsOp, HasFittingOp, IsArray, IsFlow, IsIn, NumbersFit, Stands as InBlock}
@@ -37,8 +37,8 @@ use Rattle.ia32_rows.specs.Filling.{fill}
 use Rattle.ia32_rows.specs.Placements.{Placement, below}
 use Rattle.ia32_rows.specs.Sites.{IsInFrame}
 use Rattle.ia32_rows.specs.Rows.{block_rows, entry_label, headers, loop_label, place_after, place_before, point_row}
-use Rattle.ia32_rows.specs.Rows.{choosing, comparing, cond_of, jumping, moves_into, moves_to, point_rows, prologue, row}
-use Rattle.ia32_rows.specs.Rows.{selected, zeroing}
+use Rattle.ia32_rows.specs.Rows.{branching, choosing, comparing, cond_of, cond_of_order, jumping, moves_into, moves_to}
+use Rattle.ia32_rows.specs.Rows.{point_rows, prologue, row, selected, zeroing}
 use Rattle.ia32_rows.proofs.ItemKinds.{either-way, all-append, all-at, element-at}
 use Rattle.ia32_rows.proofs.Laid.{row-in-graph}
 use Rattle.ia32_rows.proofs.Numbered.{all_points, few-points, flow-distinct, labels-once, points-once, points-placed}
@@ -125,17 +125,19 @@ row-there flow placement p b o placed e there =
     (stands-back label front (point_row flow placement p ++ rest)
     (stands-front label (point_row flow placement p) rest mine))
 
--- as the label of a detour is in the row of a branch that has one
-detour-there : (flow : Flow) (placement : Placement) (p : ℕ) (how : Comparison) (y z x w : ℕ) (move : Item)
-    (rest : List Item) → moves_into flow placement p x ≡ move ∷ rest
-    → Stands (item.Label (loop_label flow p)) (row flow placement p (op.Branch how y z x w))
-detour-there flow placement p how y z x w move rest e =
+-- as the label of a detour is in the row of a branch by a condition that has one
+detour-there : (flow : Flow) (placement : Placement) (p : ℕ) (c : Cond) (y z x w : ℕ) (move : Item) (rest : List Item)
+    → moves_into flow placement p x ≡ move ∷ rest
+    → Stands (item.Label (loop_label flow p))
+    (branching c (loop_label flow p) (place_before placement p y) (place_before placement p z)
+    (moves_into flow placement p x) (moves_into flow placement p w) x w)
+detour-there flow placement p c y z x w move rest e =
     let label : Item = item.Label (loop_label flow p) in
     let first : List Item = comparing (place_before placement p y) (place_before placement p z) in
     let moves : List Item = moves_into flow placement p w in
-    stands-back label first (choosing (cond_of how) (loop_label flow p) (moves_into flow placement p x) moves x w)
-    (subst (λ (items : List Item). Stands label (choosing (cond_of how) (loop_label flow p) items moves x w)) (sym e)
-    (stands-back label (item.JumpIf (cond_of how) (loop_label flow p) ∷ jumping moves w)
+    stands-back label first (choosing c (loop_label flow p) (moves_into flow placement p x) moves x w)
+    (subst (λ (items : List Item). Stands label (choosing c (loop_label flow p) items moves x w)) (sym e)
+    (stands-back label (item.JumpIf c (loop_label flow p) ∷ jumping moves w)
     (label ∷ jumping (move ∷ rest) x) (0, refl)))
 
 -- ---- a point and the next one
@@ -176,6 +178,7 @@ goes-behind flow p q OutOfProgram e h = absurd (let k : true ≡ false = e in cc
 plain-most : (o : Op) → is_end o ≡ false → most_row o ≡ 200
 plain-most (op.Jump x) e = absurd (let k : true ≡ false = e in cc)
 plain-most (op.Branch how a b x y) e = absurd (let k : true ≡ false = e in cc)
+plain-most (op.Branchu how a b x y) e = absurd (let k : true ≡ false = e in cc)
 plain-most o e = refl
 
 -- ---- what is near
@@ -238,7 +241,13 @@ module _ (functions objects : ℕ) (flow : Flow) (placement : Placement) (homes 
     label-there flow placement x fits.1.1.0,
     label-there flow placement w fits.1.1.1.0,
     (λ move rest is. row-there flow placement p b (op.Branch how y z x w) placed e
-        (detour-there flow placement p how y z x w move rest is)),
+        (detour-there flow placement p (cond_of how) y z x w move rest is)),
+  )
+  labels-of p b (op.Branchu how y z x w) placed e fits = (
+    label-there flow placement x fits.1.1.0,
+    label-there flow placement w fits.1.1.1.0,
+    (λ move rest is. row-there flow placement p b (op.Branchu how y z x w) placed e
+        (detour-there flow placement p (cond_of_order how) y z x w move rest is)),
   )
   labels-of p b (op.Clear k) placed e fits = row-there flow placement p b (op.Clear k) placed e (2, refl)
   labels-of p b o placed e fits = tt
@@ -265,6 +274,10 @@ module _ (functions objects : ℕ) (flow : Flow) (placement : Placement) (homes 
   ways-fit p b (op.Branch how y z x w) placed has = (
     moves-within p (slice_get (points_of flow x) 0) (λ q e. ((b, placed), op.Branch how y z x w, has, inl e)),
     moves-within p (slice_get (points_of flow w) 0) (λ q e. ((b, placed), op.Branch how y z x w, has, inr e)),
+  )
+  ways-fit p b (op.Branchu how y z x w) placed has = (
+    moves-within p (slice_get (points_of flow x) 0) (λ q e. ((b, placed), op.Branchu how y z x w, has, inl e)),
+    moves-within p (slice_get (points_of flow w) 0) (λ q e. ((b, placed), op.Branchu how y z x w, has, inr e)),
   )
   ways-fit p b o placed has = tt
 
@@ -355,6 +368,7 @@ module _ (functions objects : ℕ) (flow : Flow) (placement : Placement) (homes 
       most : (o : Op) → most_row o ≤ 640
       most (op.Jump x) = omega arith
       most (op.Branch how a b x y) = omega arith
+      most (op.Branchu how a b x y) = omega arith
       most o = omega arith
 
       last : (r m w : ℕ) → r ≤ m + 8 * w → m ≤ 640 → r + 0 ≤ 640 + 8 * w

@@ -5,9 +5,8 @@ ghost use Rattle.ia32_rows.specs.Rows.{branching, jumping, loop_label, moves_int
 ghost use Rattle.ia32_select.specs.Sites.{HasPoint, before_at, flow_of, placement_of};
 
 use crate::site::{Site, before, loop_label, moves_into};
-use flow_graph::Comparison;
 use ia32_emit::{emit_branch, emit_jump};
-use ia32_insn::Item;
+use ia32_insn::{Cond, Item};
 use pcc_base::NoMemory;
 
 /// From a point to a block.
@@ -18,12 +17,13 @@ pub fn jump(out: &mut Vec<Item>, site: &Site<'_>, point: u32, block: u32) -> Res
     emit_jump(out, moves_into(site, point, block), block)
 }
 
-/// From a point to one block where two variables compare so, to the other where they don't.
+/// From a point to one block where two variables compare so that the flags meet a condition, to the other where they
+/// don't.
 pub fn branch(
     out: &mut Vec<Item>,
     site: &Site<'_>,
     point: u32,
-    how: Comparison,
+    condition: Cond,
     first: &u32,
     second: &u32,
     taken: u32,
@@ -32,14 +32,14 @@ pub fn branch(
     requires point { HasPoint site.now point }
     requires label { loop_label (flow_of site.now) point < 2 ^ 32 }
     ensures { OnOk result (out.new.items ≡ out.old.items
-        ++ branching how (loop_label (flow_of site.now) point) (before_at site.now point first.now)
+        ++ branching condition (loop_label (flow_of site.now) point) (before_at site.now point first.now)
         (before_at site.now point second.now)
         (moves_into (flow_of site.now) (placement_of site.now) point taken)
         (moves_into (flow_of site.now) (placement_of site.now) point other) taken other) }
 {
     emit_branch(
         out,
-        how,
+        condition,
         loop_label(site, point),
         before(site, point, first),
         before(site, point, second),

@@ -25,18 +25,21 @@ fn exit_of(op: &Op) -> Exit
     ensures { result ≡ exits.exit_of op.now }
 {
     match op {
-        Op::Const(_, _) | Op::Copy(_, _) | Op::Wide(_, _) | Op::Low(_, _) | Op::Low16(_, _) =>
-            Exit::Next,
+        Op::Const(_, _) | Op::Copy(_, _) | Op::Wide(_, _) | Op::Zero(_, _) => Exit::Next,
+        Op::Low(_, _) | Op::Low16(_, _) => Exit::Next,
         Op::Neg(_, _) | Op::Not(_, _) | Op::Frame(_, _) | Op::Static(_, _) => Exit::Next,
         Op::Add(_, _, _) | Op::Sub(_, _, _) | Op::Mul(_, _, _) => Exit::Next,
         Op::And(_, _, _) | Op::Or(_, _, _) | Op::Xor(_, _, _) => Exit::Next,
-        Op::Shl(_, _, _) | Op::Sar(_, _, _) | Op::Div(_, _, _) | Op::Rem(_, _, _) => Exit::Next,
-        Op::Set(_, _, _, _) | Op::Load(_, _, _, _) | Op::Store(_, _, _, _) => Exit::Next,
+        Op::Shl(_, _, _) | Op::Sar(_, _, _) | Op::Shr(_, _, _) => Exit::Next,
+        Op::Div(_, _, _) | Op::Rem(_, _, _) | Op::Udiv(_, _, _) | Op::Urem(_, _, _) => Exit::Next,
+        Op::Set(_, _, _, _) | Op::Setu(_, _, _, _) => Exit::Next,
+        Op::Load(_, _, _, _) | Op::Store(_, _, _, _) => Exit::Next,
         Op::Get(_, _, _) | Op::Put(_, _, _) | Op::Clear(_) | Op::Param(_, _) => Exit::Next,
         Op::Call(_, _, _) | Op::Putchar(_, _) | Op::Getchar(_) => Exit::Next,
         Op::Same(_, _) | Op::Mark(_) | Op::Turn => Exit::Next,
         Op::Jump(block) => Exit::Block(*block),
         Op::Branch(_, _, _, first, second) => Exit::Either(*first, *second),
+        Op::Branchu(_, _, _, first, second) => Exit::Either(*first, *second),
         Op::Exit(_) | Op::Return(_) => Exit::Nowhere,
     }
 }

@@ -2,19 +2,20 @@
 
 ghost use Rattle.std.specs.Prelude.{◌≡◌, ◌<◌, ◌^◌, ◌++◌, OnOk, length, map, option_map, slice_index_or};
 ghost use Rattle.ia32_insn.specs.declared.insn.AluOp.TheVariants as alu;
+ghost use Rattle.ia32_insn.specs.declared.insn.Insn.TheVariants as insn;
 ghost use Rattle.ia32_rows.specs.Rows.{adding, call_row, clear_row, commuting, dividing, load_row, loop_label};
-ghost use Rattle.ia32_rows.specs.Rows.{multiplying, operation, setting, shifting, size_of, store_row};
+ghost use Rattle.ia32_rows.specs.Rows.{multiplying, operation, setting, shifting, size_of, store_row, zero_edx};
 ghost use Rattle.ia32_emit.specs.Locations.{slots_of};
 ghost use Rattle.ia32_select.specs.Sites.{HasPoint, after_at, before_at, flow_of};
 
 use crate::arrays::emit_clear;
 use crate::site::{Site, after, all_before, any_after, array_at, array_of, before, loop_label};
-use flow_graph::{Bits, Comparison, Words};
+use flow_graph::{Bits, Words};
 use ia32_emit::{
     emit_call, emit_commuting, emit_division, emit_load, emit_operation, emit_product, emit_set,
-    emit_shift, emit_store, emit_sum,
+    emit_shift, emit_store, emit_sum, emit_unsigned_division,
 };
-use ia32_insn::{AluOp, Item, Reg32, ShiftOp};
+use ia32_insn::{AluOp, Cond, Item, Reg32, ShiftOp};
 use pcc_base::NoMemory;
 
 /// The sum of two variables.
@@ -120,10 +121,34 @@ pub fn division(
 ) -> Result<(), NoMemory>
     requires { HasPoint site.now point }
     ensures { OnOk result (out.new.items ≡ out.old.items
-        ++ dividing part (after_at site.now point to.now) (before_at site.now point first.now)
+        ++ dividing insn.Cdq insn.IDiv part (after_at site.now point to.now) (before_at site.now point first.now)
         (before_at site.now point second.now)) }
 {
     emit_division(
+        out,
+        part,
+        after(site, point, to),
+        before(site, point, first),
+        before(site, point, second),
+    )
+}
+
+/// The same, of numbers without sign.
+pub fn unsigned_division(
+    out: &mut Vec<Item>,
+    site: &Site<'_>,
+    point: u32,
+    part: Reg32,
+    to: &u32,
+    first: &u32,
+    second: &u32,
+) -> Result<(), NoMemory>
+    requires { HasPoint site.now point }
+    ensures { OnOk result (out.new.items ≡ out.old.items
+        ++ dividing zero_edx insn.Div part (after_at site.now point to.now) (before_at site.now point first.now)
+        (before_at site.now point second.now)) }
+{
+    emit_unsigned_division(
         out,
         part,
         after(site, point, to),
@@ -156,24 +181,24 @@ pub fn shift(
     )
 }
 
-/// Whether two variables compare so.
+/// Whether two variables compare so that the flags meet a condition.
 pub fn set(
     out: &mut Vec<Item>,
     site: &Site<'_>,
     point: u32,
-    how: Comparison,
+    condition: Cond,
     to: &u32,
     first: &u32,
     second: &u32,
 ) -> Result<(), NoMemory>
     requires { HasPoint site.now point }
     ensures { OnOk result (out.new.items ≡ out.old.items
-        ++ setting how (after_at site.now point to.now) (before_at site.now point first.now)
+        ++ setting condition (after_at site.now point to.now) (before_at site.now point first.now)
         (before_at site.now point second.now)) }
 {
     emit_set(
         out,
-        how,
+        condition,
         after(site, point, to),
         before(site, point, first),
         before(site, point, second),

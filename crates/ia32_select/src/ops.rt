@@ -8,13 +8,14 @@ ghost use Rattle.ia32_select.specs.Sites.{HasPoint, flow_of, placement_of};
 use crate::branches::{branch, jump};
 use crate::operands::{
     call, clear, commuting, difference, division, load, product, set, shift, store, sum,
+    unsigned_division,
 };
 use crate::site::{Site, after, array_at, before};
 use flow_graph::Op;
 use ia32_emit::{
-    emit, emit_complement, emit_copy, emit_exit, emit_frame_array, emit_get, emit_getchar,
-    emit_half, emit_leave, emit_low, emit_negation, emit_number, emit_param, emit_put,
-    emit_putchar, emit_return, emit_same, emit_static, emit_wide,
+    cond_of, cond_of_order, emit, emit_complement, emit_copy, emit_exit, emit_frame_array,
+    emit_get, emit_getchar, emit_half, emit_leave, emit_low, emit_negation, emit_number,
+    emit_param, emit_put, emit_putchar, emit_return, emit_same, emit_static, emit_wide, emit_zero,
 };
 use ia32_insn::{AluOp, Insn, Item, Reg32, ShiftOp};
 use pcc_base::NoMemory;
@@ -36,6 +37,7 @@ pub(crate) fn emit_op(
         Op::Const(to, number) => emit_number(out, after(site, point, to), *number),
         Op::Copy(to, from) => emit_copy(out, before(site, point, from), after(site, point, to)),
         Op::Wide(to, from) => emit_wide(out, after(site, point, to), before(site, point, from)),
+        Op::Zero(to, from) => emit_zero(out, after(site, point, to), before(site, point, from)),
         Op::Low(to, from) => emit_low(out, after(site, point, to), before(site, point, from)),
         Op::Low16(to, from) => emit_half(out, after(site, point, to), before(site, point, from)),
         Op::Neg(to, from) => emit_negation(out, after(site, point, to), before(site, point, from)),
@@ -52,9 +54,20 @@ pub(crate) fn emit_op(
         Op::Xor(to, first, second) => commuting(out, site, point, AluOp::Xor, to, first, second),
         Op::Shl(to, first, count) => shift(out, site, point, ShiftOp::Shl, to, first, count),
         Op::Sar(to, first, count) => shift(out, site, point, ShiftOp::Sar, to, first, count),
+        Op::Shr(to, first, count) => shift(out, site, point, ShiftOp::Shr, to, first, count),
         Op::Div(to, first, second) => division(out, site, point, Reg32::Eax, to, first, second),
         Op::Rem(to, first, second) => division(out, site, point, Reg32::Edx, to, first, second),
-        Op::Set(how, to, first, second) => set(out, site, point, *how, to, first, second),
+        Op::Udiv(to, first, second) => {
+            unsigned_division(out, site, point, Reg32::Eax, to, first, second)
+        }
+        Op::Urem(to, first, second) => {
+            unsigned_division(out, site, point, Reg32::Edx, to, first, second)
+        }
+        Op::Set(how, to, first, second) => set(out, site, point, cond_of(*how), to, first, second),
+        Op::Setu(how, to, first, second) => {
+            let condition = cond_of_order(*how);
+            set(out, site, point, condition, to, first, second)
+        }
         Op::Frame(to, array) => emit_frame_array(
             out,
             after(site, point, to),
@@ -82,9 +95,14 @@ pub(crate) fn emit_op(
         ),
         Op::Mark(_) | Op::Turn => emit(out, Insn::Nop),
         Op::Jump(block) => jump(out, site, point, *block),
-        Op::Branch(how, first, second, taken, other) => branch(
-            out, site, point, *how, first, second, *taken, *other,
-        ),
+        Op::Branch(how, first, second, taken, other) => {
+            let condition = cond_of(*how);
+            branch(out, site, point, condition, first, second, *taken, *other)
+        }
+        Op::Branchu(how, first, second, taken, other) => {
+            let condition = cond_of_order(*how);
+            branch(out, site, point, condition, first, second, *taken, *other)
+        }
         Op::Return(Some(from)) => emit_return(out, before(site, point, from)),
         Op::Return(None) => emit_leave(out),
     }

@@ -115,6 +115,18 @@ B8 44 33 22 11 B4 55 0F B6 D8 B8 01 00 00 00 CD 80 => \
     Ended(68) ; MOV EAX, 0x11223344; MOV AH, 0x55; MOVZX EBX, AL; exit
 B8 07 00 00 00 99 F7 FB => Trapped(Divide) ; MOV EAX, 7; CDQ; IDIV EBX
 B8 00 00 00 80 99 BB FF FF FF FF F7 FB => Trapped(Divide) ; MOV EAX, 0x80000000; CDQ; MOV EBX, -1; IDIV EBX
+B8 07 00 00 00 31 D2 F7 F3 => Trapped(Divide) ; MOV EAX, 7; XOR EDX, EDX; DIV EBX
+B8 FB FF FF FF B9 03 00 00 00 31 D2 F7 F1 89 C3 B8 01 00 00 00 CD 80 => \
+    Ended(83) ; 4294967291u / 3, modulo 256: MOV EAX, -5; MOV ECX, 3; XOR EDX, EDX; DIV ECX; MOV EBX, EAX; exit
+B8 00 00 00 80 B9 FF FF FF FF 31 D2 F7 F1 89 D3 C1 EB 18 B8 01 00 00 00 CD 80 => \
+    Ended(128) ; 0x80000000u % 0xffffffffu >> 24: MOV EAX, 0x80000000; MOV ECX, -1; XOR EDX, EDX; DIV ECX; MOV EBX, \
+    EDX; SHR EBX, 24; exit
+B8 F0 FF FF FF B1 1C D3 E8 89 C3 B8 01 00 00 00 CD 80 => \
+    Ended(15) ; 0xfffffff0u >> 28: MOV EAX, -16; MOV CL, 28; SHR EAX, CL; MOV EBX, EAX; exit
+B8 01 00 00 00 B9 FF FF FF FF 39 C8 0F 92 C3 0F B6 DB B8 01 00 00 00 CD 80 => \
+    Ended(1) ; 1 < 0xffffffffu: MOV EAX, 1; MOV ECX, -1; CMP EAX, ECX; SETB BL; MOVZX EBX, BL; exit
+B8 01 00 00 00 83 CB FF 39 C3 BB 03 00 00 00 73 05 BB 04 00 00 00 CD 80 => \
+    Ended(3) ; 0xffffffffu >= 1: MOV EAX, 1; OR EBX, -1; CMP EBX, EAX; MOV EBX, 3; JAE; MOV EBX, 4; INT 0x80
 0F 0B => Trapped(Check) ; UD2
 0F 94 C0 => Stopped(Flags, 134512640) ; SETE AL
 39 C0 C1 E0 02 0F 94 C0 => Stopped(Flags, 134512645) ; CMP EAX, EAX; SHL EAX, 2; SETE AL
@@ -196,7 +208,7 @@ fn expect_end(
 /// Where nothing is read or written, each text ends so.
 #[test]
 fn ends_by_its_instructions(rt: HostRuntime) {
-    for row in rows_of(&rt, ENDS, 16) {
+    for row in rows_of(&rt, ENDS, 22) {
         let (text, end) = cells(&rt, row);
         expect_end(&rt, rt.alloc(), text, "writable", end, "");
     }

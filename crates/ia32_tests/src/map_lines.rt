@@ -1,7 +1,7 @@
 //! Lines of maps, by hand.
 
 use crate::expected::expect;
-use flow_graph::{Bits, Comparison, Op, Words};
+use flow_graph::{Bits, Comparison, Op, Order, Words};
 use map_text::{
     Named, push_after, push_array, push_before, push_block, push_board, push_end, push_function,
     push_object, push_op, push_point, push_spilled, push_title, push_variable,
@@ -37,6 +37,7 @@ fn conversions(rt: HostRuntime) {
         ),
         (Op::Copy(3, 4), " copy 3 4"),
         (Op::Wide(3, 4), " wide 3 4"),
+        (Op::Zero(3, 4), " zero 3 4"),
         (Op::Low(3, 4), " low 3 4"),
         (Op::Low16(3, 4), " low16 3 4"),
     ];
@@ -53,6 +54,8 @@ fn arithmetic(rt: HostRuntime) {
         (Op::Mul(1, 2, 30), " mul 1 2 30"),
         (Op::Div(1, 2, 30), " div 1 2 30"),
         (Op::Rem(1, 2, 30), " rem 1 2 30"),
+        (Op::Udiv(1, 2, 30), " udiv 1 2 30"),
+        (Op::Urem(1, 2, 30), " urem 1 2 30"),
     ];
     expect_ops(&rt, rt.alloc(), &rows);
     let rows = [
@@ -62,6 +65,7 @@ fn arithmetic(rt: HostRuntime) {
         (Op::Xor(1, 2, 30), " xor 1 2 30"),
         (Op::Shl(1, 2, 30), " shl 1 2 30"),
         (Op::Sar(1, 2, 30), " sar 1 2 30"),
+        (Op::Shr(1, 2, 30), " shr 1 2 30"),
     ];
     expect_ops(&rt, rt.alloc(), &rows);
 }
@@ -76,7 +80,18 @@ fn comparisons(rt: HostRuntime) {
         (Op::Set(Comparison::Le, 5, 6, 7), " set le 5 6 7"),
         (Op::Set(Comparison::Gt, 5, 6, 7), " set gt 5 6 7"),
         (Op::Set(Comparison::Ge, 5, 6, 7), " set ge 5 6 7"),
+        (Op::Setu(Order::Lt, 5, 6, 7), " setu lt 5 6 7"),
+        (Op::Setu(Order::Le, 5, 6, 7), " setu le 5 6 7"),
+        (Op::Setu(Order::Gt, 5, 6, 7), " setu gt 5 6 7"),
+        (Op::Setu(Order::Ge, 5, 6, 7), " setu ge 5 6 7"),
         (Op::Same(8, 9), " same 8 9"),
+    ];
+    expect_ops(&rt, rt.alloc(), &rows);
+    let rows = [
+        (Op::Setu(Order::Lt, 5, 6, 7), " setu lt 5 6 7"),
+        (Op::Setu(Order::Le, 5, 6, 7), " setu le 5 6 7"),
+        (Op::Setu(Order::Gt, 5, 6, 7), " setu gt 5 6 7"),
+        (Op::Setu(Order::Ge, 5, 6, 7), " setu ge 5 6 7"),
     ];
     expect_ops(&rt, rt.alloc(), &rows);
 }
@@ -122,6 +137,7 @@ fn ends(rt: HostRuntime) {
         (Op::Exit(4), " exit 4"),
         (Op::Jump(2), " jump 2"),
         (Op::Branch(Comparison::Lt, 1, 2, 3, 4), " branch lt 1 2 3 4"),
+        (Op::Branchu(Order::Ge, 1, 2, 3, 4), " branchu ge 1 2 3 4"),
         (Op::Return(Some(5)), " return 5"),
         (Op::Return(None), " return -"),
     ];

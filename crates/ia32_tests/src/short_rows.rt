@@ -1,10 +1,13 @@
-//! The items of ops whose operands stand where a row needs fewer moves, by hand.
+//! The items of ops whose operands stand where a row needs fewer moves, and of ops of numbers without sign, by hand.
 
 use crate::expected::expect;
 use crate::rows::expect_printed;
-use flow_graph::Bits;
-use ia32_emit::{Location, emit_operation, emit_product, emit_store, emit_sum};
-use ia32_insn::{AluOp, Item, Reg32};
+use flow_graph::{Bits, Order};
+use ia32_emit::{
+    Location, cond_of_order, emit_branch, emit_half, emit_low, emit_operation, emit_product,
+    emit_set, emit_shift, emit_store, emit_sum, emit_unsigned_division, emit_zero,
+};
+use ia32_insn::{AluOp, Item, Reg8, Reg32, ShiftOp};
 use pcc_base::NoMemory;
 
 const EAX: Location = Location::Word(Reg32::Eax);
@@ -12,6 +15,8 @@ const EAX: Location = Location::Word(Reg32::Eax);
 const ECX: Location = Location::Word(Reg32::Ecx);
 
 const EBX: Location = Location::Word(Reg32::Ebx);
+
+const CL: Location = Location::Byte(Reg8::Cl);
 
 const SLOT: Location = Location::Slot(-20);
 
@@ -62,6 +67,34 @@ Plain(Mov8(Mem(Mem { base: Some(Edi), index: None, disp: 0 }), Al))
 Plain(Xchg(Reg(Esi), Eax))
 ";
 
+/// A byte with zero bits above it, from a slot and to one; the low byte and half of a word in a slot, where it stands.
+const BYTES: &str = "\
+Plain(MovZx8(Ebx, Mem(Mem { base: Some(Ebp), index: None, disp: -20 })))
+Plain(MovZx8(Esi, Reg(Cl)))
+Plain(Mov(Mem(Mem { base: Some(Ebp), index: None, disp: -20 }), Esi))
+Plain(Mov8Load(Cl, Mem { base: Some(Ebp), index: None, disp: -20 }))
+Plain(MovSx16(Ebx, Mem(Mem { base: Some(Ebp), index: None, disp: -20 })))
+";
+
+/// A quotient and a remainder without sign, the latter with its divisor in EDX, which is cleared; a shift that fills with
+/// zeros; and an order without sign, as a number and by a branch.
+const UNSIGNED: &str = "\
+Plain(Alu(Xor, Reg(Edx), Edx))
+Plain(Div(Mem(Mem { base: Some(Ebp), index: None, disp: -20 })))
+Plain(Mov(Reg(Esi), Edx))
+Plain(Mov(Reg(Eax), Ecx))
+Plain(Alu(Xor, Reg(Edx), Edx))
+Plain(Div(Reg(Esi)))
+Plain(Mov(Reg(Ebx), Edx))
+Plain(ShiftCl(Shr, Reg(Ebx)))
+Plain(Alu(Cmp, Reg(Eax), Ecx))
+Plain(SetCc(B, Reg(Bl)))
+Plain(MovZx8(Ebx, Reg(Bl)))
+Plain(Alu(Cmp, Reg(Eax), Ecx))
+JumpIf(Ae, 1)
+JumpTo(2)
+";
+
 fn put_sums(out: &mut Vec<Item>) -> Result<(), NoMemory> {
     emit_sum(out, EBX, EAX, ECX)?;
     emit_sum(out, SLOT, EAX, ECX)?;
@@ -82,6 +115,21 @@ fn put_stores(out: &mut Vec<Item>) -> Result<(), NoMemory> {
     emit_store(out, Bits::Eight, EAX, ECX, SLOT)
 }
 
+fn put_bytes(out: &mut Vec<Item>) -> Result<(), NoMemory> {
+    emit_zero(out, EBX, SLOT)?;
+    emit_zero(out, SLOT, CL)?;
+    emit_low(out, CL, SLOT)?;
+    emit_half(out, EBX, SLOT)
+}
+
+fn put_unsigned(out: &mut Vec<Item>) -> Result<(), NoMemory> {
+    emit_unsigned_division(out, Reg32::Eax, EAX, EAX, SLOT)?;
+    emit_unsigned_division(out, Reg32::Edx, EBX, ECX, Location::Word(Reg32::Edx))?;
+    emit_shift(out, ShiftOp::Shr, EBX, EBX, CL)?;
+    emit_set(out, cond_of_order(Order::Lt), EBX, EAX, ECX)?;
+    emit_branch(out, cond_of_order(Order::Ge), 3, EAX, ECX, &[], &[], 1, 2)
+}
+
 #[test]
 fn operands_where_they_stand(rt: HostRuntime) {
     let mut out = Vec::new(rt.alloc());
@@ -91,6 +139,17 @@ fn operands_where_they_stand(rt: HostRuntime) {
     let rows = SUMS.lines().chain(OPERATIONS.lines()).chain(STORES.lines());
     expect(&rt, &out.len(), &31, "how many items");
     for (item, row) in out.iter().zip(rows) {
+        expect_printed(&rt, rt.alloc(), item, row);
+    }
+}
+
+#[test]
+fn numbers_without_sign(rt: HostRuntime) {
+    let mut out = Vec::new(rt.alloc());
+    put_bytes(&mut out).expect(&rt, "the items of bytes");
+    put_unsigned(&mut out).expect(&rt, "the items of numbers without sign");
+    expect(&rt, &out.len(), &19, "how many items");
+    for (item, row) in out.iter().zip(BYTES.lines().chain(UNSIGNED.lines())) {
         expect_printed(&rt, rt.alloc(), item, row);
     }
 }

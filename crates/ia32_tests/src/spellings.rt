@@ -53,12 +53,14 @@ B7 C8 => Mov8Imm(Bh, 200) ; mov bh, 200
 66 89 F5 => Mov16(Reg(Ebp), Esi) ; mov bp, si
 0F B6 C2 => MovZx8(Eax, Reg(Dl)) ; movzx eax, dl
 0F B6 7D FF => MovZx8(Edi, Mem(Mem { base: Some(Ebp), index: None, disp: -1 })) ; movzx edi, byte ptr [ebp-1]
+0F B6 45 EC => MovZx8(Eax, Mem(Mem { base: Some(Ebp), index: None, disp: -20 })) ; movzx eax, byte ptr [ebp-20]
 0F B7 CC => MovZx16(Ecx, Reg(Esp)) ; movzx ecx, sp
 0F B7 0C 40 => \
     MovZx16(Ecx, Mem(Mem { base: Some(Eax), index: Some((Eax, 2)), disp: 0 })) ; movzx ecx, word ptr [eax+eax*2]
 0F BE DC => MovSx8(Ebx, Reg(Ah)) ; movsx ebx, ah
 0F BE 74 24 03 => MovSx8(Esi, Mem(Mem { base: Some(Esp), index: None, disp: 3 })) ; movsx esi, byte ptr [esp+3]
 0F BF D7 => MovSx16(Edx, Reg(Edi)) ; movsx edx, di
+0F BF 55 EC => MovSx16(Edx, Mem(Mem { base: Some(Ebp), index: None, disp: -20 })) ; movsx edx, word ptr [ebp-20]
 0F BF 12 => MovSx16(Edx, Mem(Mem { base: Some(Edx), index: None, disp: 0 })) ; movsx edx, word ptr [edx]
 86 F1 => Xchg8(Reg(Cl), Dh) ; xchg cl, dh
 86 01 => Xchg8(Mem(Mem { base: Some(Ecx), index: None, disp: 0 }), Al) ; xchg byte ptr [ecx], al
@@ -86,6 +88,7 @@ const ARITHMETIC: &str = "\
 2B 6C 24 14 => AluLoad(Sub, Ebp, Mem { base: Some(Esp), index: None, disp: 20 }) ; sub ebp, dword ptr [esp+20]
 83 EA 64 => AluImm(Sub, Reg(Edx), 100) ; sub edx, 100
 31 F1 => Alu(Xor, Reg(Ecx), Esi) ; xor ecx, esi
+31 D2 => Alu(Xor, Reg(Edx), Edx) ; xor edx, edx
 33 6C 24 14 => AluLoad(Xor, Ebp, Mem { base: Some(Esp), index: None, disp: 20 }) ; xor ebp, dword ptr [esp+20]
 83 F2 64 => AluImm(Xor, Reg(Edx), 100) ; xor edx, 100
 39 F1 => Alu(Cmp, Reg(Ecx), Esi) ; cmp ecx, esi
@@ -109,6 +112,7 @@ const OTHERS: &str = "\
 F7 D3 => Not(Reg(Ebx)) ; not ebx
 F7 DB => Neg(Reg(Ebx)) ; neg ebx
 F7 F3 => Div(Reg(Ebx)) ; div ebx
+F7 75 EC => Div(Mem(Mem { base: Some(Ebp), index: None, disp: -20 })) ; div dword ptr [ebp-20]
 F7 FB => IDiv(Reg(Ebx)) ; idiv ebx
 F7 7C F1 40 => IDiv(Mem(Mem { base: Some(Ecx), index: Some((Esi, 8)), disp: 64 })) ; idiv dword ptr [ecx+esi*8+64]
 99 => Cdq ; cdq
@@ -129,12 +133,15 @@ C3 => Ret ; ret
 C9 => Leave ; leave
 E9 00 F0 FF FF => Jmp(-4096) ; jmp .-4091
 0F 80 2C 01 00 00 => Jcc(O, 300) ; jo .+306
+0F 82 2C 01 00 00 => Jcc(B, 300) ; jb .+306
+0F 83 2C 01 00 00 => Jcc(Ae, 300) ; jae .+306
 0F 84 2C 01 00 00 => Jcc(E, 300) ; je .+306
 0F 85 2C 01 00 00 => Jcc(Ne, 300) ; jne .+306
 0F 8A 2C 01 00 00 => Jcc(P, 300) ; jp .+306
 0F 8D 2C 01 00 00 => Jcc(Ge, 300) ; jge .+306
 0F 8F 2C 01 00 00 => Jcc(G, 300) ; jg .+306
 0F 91 C2 => SetCc(No, Reg(Dl)) ; setno dl
+0F 92 C0 => SetCc(B, Reg(Al)) ; setb al
 0F 93 C2 => SetCc(Ae, Reg(Dl)) ; setae dl
 0F 98 C2 => SetCc(S, Reg(Dl)) ; sets dl
 0F 9E C2 => SetCc(Le, Reg(Dl)) ; setle dl
@@ -148,7 +155,7 @@ CD 80 => Int(128) ; int 0x80
 fn bytes_of_instructions(rt: HostRuntime) {
     let alloc = rt.alloc();
     expect_rows(&rt, alloc, MEMORY_OPERANDS, 23, true);
-    expect_rows(&rt, alloc, MOVES, 28, true);
-    expect_rows(&rt, alloc, ARITHMETIC, 26, true);
-    expect_rows(&rt, alloc, OTHERS, 39, true);
+    expect_rows(&rt, alloc, MOVES, 30, true);
+    expect_rows(&rt, alloc, ARITHMETIC, 27, true);
+    expect_rows(&rt, alloc, OTHERS, 43, true);
 }

@@ -23,16 +23,18 @@ fn fits(function: &MapFunction, op: &Op) -> bool
     match op {
         Op::Const(a, _) => any_width(function, *a),
         Op::Copy(a, b) => same_width(function, *a, *b),
-        Op::Wide(a, b) => word_and_byte(function, *a, *b),
+        Op::Wide(a, b) | Op::Zero(a, b) => word_and_byte(function, *a, *b),
         Op::Low(a, b) => byte_and_word(function, *a, *b),
         Op::Low16(a, b) | Op::Neg(a, b) | Op::Not(a, b) => two_words(function, *a, *b),
         Op::Putchar(a, b) | Op::Same(a, b) => two_words(function, *a, *b),
         Op::Add(a, b, c) | Op::Sub(a, b, c) | Op::Mul(a, b, c) => three_words(function, *a, *b, *c),
         Op::And(a, b, c) | Op::Or(a, b, c) | Op::Xor(a, b, c) => three_words(function, *a, *b, *c),
         Op::Div(a, b, c) | Op::Rem(a, b, c) => three_words(function, *a, *b, *c),
-        Op::Set(_, a, b, c) | Op::Load(_, a, b, c) => three_words(function, *a, *b, *c),
-        Op::Store(_, a, b, c) => three_words(function, *a, *b, *c),
+        Op::Udiv(a, b, c) | Op::Urem(a, b, c) => three_words(function, *a, *b, *c),
+        Op::Set(_, a, b, c) | Op::Setu(_, a, b, c) => three_words(function, *a, *b, *c),
+        Op::Load(_, a, b, c) | Op::Store(_, a, b, c) => three_words(function, *a, *b, *c),
         Op::Shl(a, b, c) | Op::Sar(a, b, c) => two_words_and_byte(function, *a, *b, *c),
+        Op::Shr(a, b, c) => two_words_and_byte(function, *a, *b, *c),
         Op::Frame(a, k) => word_and_array(function, *a, *k),
         Op::Clear(k) => one_array(function, *k),
         Op::Static(a, _) | Op::Get(_, a, _) | Op::Put(_, _, a) => one_word(function, *a),
@@ -40,7 +42,9 @@ fn fits(function: &MapFunction, op: &Op) -> bool
         Op::Call(to, _, list) => call_words(function, *to, list.as_slice()),
         Op::Mark(_) | Op::Turn => true,
         Op::Jump(x) => one_block(function, *x),
-        Op::Branch(_, a, b, x, y) => two_words_and_blocks(function, *a, *b, *x, *y),
+        Op::Branch(_, a, b, x, y) | Op::Branchu(_, a, b, x, y) => {
+            two_words_and_blocks(function, *a, *b, *x, *y)
+        }
         Op::Return(a) => word_if_any(function, *a),
     }
 }
@@ -52,15 +56,18 @@ fn names_within(functions: usize, objects: usize, op: &Op) -> bool
     match op {
         Op::Static(_, k) | Op::Get(_, _, k) | Op::Put(_, k, _) => (*k as usize) < objects,
         Op::Call(_, f, _) => (*f as usize) < functions,
-        Op::Const(_, _) | Op::Copy(_, _) | Op::Wide(_, _) | Op::Low(_, _) => true,
-        Op::Low16(_, _) | Op::Neg(_, _) | Op::Not(_, _) | Op::Frame(_, _) => true,
+        Op::Const(_, _) | Op::Copy(_, _) | Op::Wide(_, _) | Op::Zero(_, _) => true,
+        Op::Low(_, _) | Op::Low16(_, _) | Op::Neg(_, _) | Op::Not(_, _) | Op::Frame(_, _) => true,
         Op::Add(_, _, _) | Op::Sub(_, _, _) | Op::Mul(_, _, _) => true,
         Op::And(_, _, _) | Op::Or(_, _, _) | Op::Xor(_, _, _) => true,
-        Op::Shl(_, _, _) | Op::Sar(_, _, _) | Op::Div(_, _, _) | Op::Rem(_, _, _) => true,
-        Op::Set(_, _, _, _) | Op::Load(_, _, _, _) | Op::Store(_, _, _, _) => true,
+        Op::Shl(_, _, _) | Op::Sar(_, _, _) | Op::Shr(_, _, _) => true,
+        Op::Div(_, _, _) | Op::Rem(_, _, _) | Op::Udiv(_, _, _) | Op::Urem(_, _, _) => true,
+        Op::Set(_, _, _, _) | Op::Setu(_, _, _, _) => true,
+        Op::Load(_, _, _, _) | Op::Store(_, _, _, _) => true,
         Op::Clear(_) | Op::Param(_, _) | Op::Putchar(_, _) | Op::Getchar(_) => true,
         Op::Exit(_) | Op::Same(_, _) | Op::Mark(_) | Op::Turn => true,
-        Op::Jump(_) | Op::Branch(_, _, _, _, _) | Op::Return(_) => true,
+        Op::Jump(_) | Op::Return(_) => true,
+        Op::Branch(_, _, _, _, _) | Op::Branchu(_, _, _, _, _) => true,
     }
 }
 
@@ -86,14 +93,18 @@ fn has_numbers(op: &Op)
         Op::Const(_, number) => fits_word(number),
         Op::Param(_, number) | Op::Mark(number) => is_word(number),
         Op::Static(_, _) | Op::Get(_, _, _) | Op::Put(_, _, _) | Op::Call(_, _, _) => {}
-        Op::Copy(_, _) | Op::Wide(_, _) | Op::Low(_, _) | Op::Low16(_, _) => {}
+        Op::Copy(_, _) | Op::Wide(_, _) | Op::Zero(_, _) => {}
+        Op::Low(_, _) | Op::Low16(_, _) => {}
         Op::Neg(_, _) | Op::Not(_, _) | Op::Frame(_, _) | Op::Putchar(_, _) => {}
         Op::Add(_, _, _) | Op::Sub(_, _, _) | Op::Mul(_, _, _) => {}
         Op::And(_, _, _) | Op::Or(_, _, _) | Op::Xor(_, _, _) => {}
-        Op::Shl(_, _, _) | Op::Sar(_, _, _) | Op::Div(_, _, _) | Op::Rem(_, _, _) => {}
-        Op::Set(_, _, _, _) | Op::Load(_, _, _, _) | Op::Store(_, _, _, _) => {}
+        Op::Shl(_, _, _) | Op::Sar(_, _, _) | Op::Shr(_, _, _) => {}
+        Op::Div(_, _, _) | Op::Rem(_, _, _) | Op::Udiv(_, _, _) | Op::Urem(_, _, _) => {}
+        Op::Set(_, _, _, _) | Op::Setu(_, _, _, _) => {}
+        Op::Load(_, _, _, _) | Op::Store(_, _, _, _) => {}
         Op::Clear(_) | Op::Getchar(_) | Op::Exit(_) | Op::Same(_, _) => {}
-        Op::Turn | Op::Jump(_) | Op::Branch(_, _, _, _, _) | Op::Return(_) => {}
+        Op::Turn | Op::Jump(_) | Op::Return(_) => {}
+        Op::Branch(_, _, _, _, _) | Op::Branchu(_, _, _, _, _) => {}
     }
 }
 
@@ -111,6 +122,10 @@ pub(crate) fn is_end(op: &Op) -> bool
 {
     matches!(
         op,
-        Op::Jump(_) | Op::Branch(_, _, _, _, _) | Op::Return(_) | Op::Exit(_)
+        Op::Jump(_)
+            | Op::Branch(_, _, _, _, _)
+            | Op::Branchu(_, _, _, _, _)
+            | Op::Return(_)
+            | Op::Exit(_)
     )
 }

@@ -1,11 +1,11 @@
-//! Widths, comparisons and names, as far as a word is one.
+//! Widths, comparisons, orders and names, as far as a word is one.
 
 ghost use Rattle.std.specs.Prelude.{◌≡◌, IfOk, option_map};
-ghost use Rattle.map_text.specs.Fields.{bits_in, comparison_in, named_in, width_in};
+ghost use Rattle.map_text.specs.Fields.{bits_in, comparison_in, named_in, order_in, width_in};
 ghost use Rattle.map_file.specs.Views.{name_of};
 
 use crate::words::cut_at;
-use flow_graph::{Bits, Comparison};
+use flow_graph::{Bits, Comparison, Order};
 use map_file::MapName;
 use pcc_base::{Name, NoMemory, Width};
 use std::alloc::Global;
@@ -64,6 +64,26 @@ pub(crate) fn comparison(word: &[u8]) -> Option<Comparison>
     }
     if word == b"ge".as_slice() {
         return Some(Comparison::Ge);
+    }
+    None
+}
+
+/// How two numbers without sign are ordered.
+#[tactic(auto, unfolding(map_text::specs::Fields::order_in))]
+pub(crate) fn order(word: &[u8]) -> Option<Order>
+    ensures { result ≡ order_in word.now }
+{
+    if word == b"lt".as_slice() {
+        return Some(Order::Lt);
+    }
+    if word == b"le".as_slice() {
+        return Some(Order::Le);
+    }
+    if word == b"gt".as_slice() {
+        return Some(Order::Gt);
+    }
+    if word == b"ge".as_slice() {
+        return Some(Order::Ge);
     }
     None
 }

@@ -16,7 +16,7 @@ ghost use Rattle.map_text.specs.Reading.{
 };
 ghost use Rattle.map_reader.specs.Views.{texts};
 
-use crate::fields::{bits, comparison};
+use crate::fields::{bits, comparison, order};
 use crate::lists::numbers;
 use crate::numbers::{if_any, number, signed};
 use crate::words::next;
@@ -59,6 +59,9 @@ fn of_two(word: &[u8], a: u32, b: u32) -> Option<Op>
     }
     if word == b"wide".as_slice() {
         return Some(Op::Wide(a, b));
+    }
+    if word == b"zero".as_slice() {
+        return Some(Op::Zero(a, b));
     }
     if word == b"low".as_slice() {
         return Some(Op::Low(a, b));
@@ -119,11 +122,20 @@ fn of_three(word: &[u8], a: u32, b: u32, c: u32) -> Option<Op>
     if word == b"sar".as_slice() {
         return Some(Op::Sar(a, b, c));
     }
+    if word == b"shr".as_slice() {
+        return Some(Op::Shr(a, b, c));
+    }
     if word == b"div".as_slice() {
         return Some(Op::Div(a, b, c));
     }
     if word == b"rem".as_slice() {
         return Some(Op::Rem(a, b, c));
+    }
+    if word == b"udiv".as_slice() {
+        return Some(Op::Udiv(a, b, c));
+    }
+    if word == b"urem".as_slice() {
+        return Some(Op::Urem(a, b, c));
     }
     None
 }
@@ -193,6 +205,13 @@ fn with_four(word: &[u8], a: &[u8], b: &[u8], c: &[u8], d: &[u8]) -> Option<Op>
         let second = number(d)?;
         return Some(Op::Set(how, to, first, second));
     }
+    if word == b"setu".as_slice() {
+        let how = order(a)?;
+        let to = number(b)?;
+        let first = number(c)?;
+        let second = number(d)?;
+        return Some(Op::Setu(how, to, first, second));
+    }
     if word == b"load".as_slice() {
         let bits = bits(a)?;
         let to = number(b)?;
@@ -222,6 +241,14 @@ fn with_five(word: &[u8], a: &[u8], b: &[u8], c: &[u8], d: &[u8], e: &[u8]) -> O
         let x = number(d)?;
         let y = number(e)?;
         return Some(Op::Branch(how, first, second, x, y));
+    }
+    if word == b"branchu".as_slice() {
+        let how = order(a)?;
+        let first = number(b)?;
+        let second = number(c)?;
+        let x = number(d)?;
+        let y = number(e)?;
+        return Some(Op::Branchu(how, first, second, x, y));
     }
     None
 }

@@ -14,8 +14,9 @@ use Rattle.flow_graph.specs.declared.op.Op.{Op}
 use Rattle.flow_graph.specs.declared.op.Op.TheVariants as op
 use Rattle.flow_graph.specs.Meaning.{Moved, Moves, Halts, Stuck, step, act, at_point, given, onward, into_block, sets}
 use Rattle.flow_graph.specs.Meaning.{of_width, accessed, checked, loads, stores, scalar_of, calls, most_active, resumes}
-use Rattle.flow_graph.specs.Meaning.{result_to, ends_program, returns_to, gets, no_quotient, divided, two_numbers}
-use Rattle.flow_graph.specs.Meaning.{one_number, comparison, bytes_of, enters, values_at}
+use Rattle.flow_graph.specs.Meaning.{result_to, ends_program, returns_to, gets, no_quotient, no_unsigned_quotient}
+use Rattle.flow_graph.specs.Meaning.{divided_unless, two_numbers, one_number, comparison, ordering, bytes_of, enters}
+use Rattle.flow_graph.specs.Meaning.{values_at}
 use Rattle.flow_graph.specs.Meaning.{low_byte, stored}
 use Rattle.flow_graph.specs.States.{with_array, with_element}
 use Rattle.flow_graph.specs.declared.op.Comparison.TheVariants.{Eq}
@@ -86,10 +87,11 @@ module _ (program : GraphProgram) where
   two-stops s d a b f =
       given-stops (number_at s a) _ (λ x. given-stops (number_at s b) _ (λ y. sets-stops s d _))
 
-  divided-stops : (s : State) (d a b : ℕ) (f : ℤ → ℤ → ℤ) → StopsNot (divided program s d a b f)
-  divided-stops s d a b f =
+  divided-stops : (s : State) (traps : ℤ → ℤ → Bool) (d a b : ℕ) (f : ℤ → ℤ → ℤ)
+      → StopsNot (divided_unless traps program s d a b f)
+  divided-stops s traps d a b f =
       given-stops (number_at s a) _ (λ x. given-stops (number_at s b) _
-      (λ y. either-stops (no_quotient x y) _ _ tt (sets-stops s d _)))
+      (λ y. either-stops (traps x y) _ _ tt (sets-stops s d _)))
 
   width-stops : (bits : Bits) (array : Elements) (go : List ℤ → Moved) → ((ns : List ℤ) → StopsNot (go ns))
       → StopsNot (of_width bits array go)
@@ -165,6 +167,7 @@ module _ (program : GraphProgram) where
   act-stops s (op.Const d n) = sets-stops s d _
   act-stops s (op.Copy d a) = given-stops (value_at s a) _ (λ v. sets-stops s d v)
   act-stops s (op.Wide d a) = one-stops s d a _
+  act-stops s (op.Zero d a) = one-stops s d a _
   act-stops s (op.Low d a) = one-stops s d a _
   act-stops s (op.Low16 d a) = one-stops s d a _
   act-stops s (op.Neg d a) = one-stops s d a _
@@ -177,9 +180,13 @@ module _ (program : GraphProgram) where
   act-stops s (op.Xor d a b) = two-stops s d a b _
   act-stops s (op.Shl d a c) = two-stops s d a c _
   act-stops s (op.Sar d a c) = two-stops s d a c _
-  act-stops s (op.Div d a b) = divided-stops s d a b _
-  act-stops s (op.Rem d a b) = divided-stops s d a b _
+  act-stops s (op.Shr d a c) = two-stops s d a c _
+  act-stops s (op.Div d a b) = divided-stops s no_quotient d a b _
+  act-stops s (op.Rem d a b) = divided-stops s no_quotient d a b _
+  act-stops s (op.Udiv d a b) = divided-stops s no_unsigned_quotient d a b _
+  act-stops s (op.Urem d a b) = divided-stops s no_unsigned_quotient d a b _
   act-stops s (op.Set how d a b) = given-stops (comparison how s a b) _ (λ holds. sets-stops s d _)
+  act-stops s (op.Setu how d a b) = given-stops (ordering how s a b) _ (λ holds. sets-stops s d _)
   act-stops s (op.Frame d k) = sets-stops s d _
   act-stops s (op.Static d k) = sets-stops s d _
   act-stops s (op.Load bits d p i) =
@@ -207,6 +214,8 @@ module _ (program : GraphProgram) where
   act-stops s (op.Jump x) = into-stops x s
   act-stops s (op.Branch how a b x y) =
       given-stops (comparison how s a b) _ (λ holds. into-stops (if holds then x else y) s)
+  act-stops s (op.Branchu how a b x y) =
+      given-stops (ordering how s a b) _ (λ holds. into-stops (if holds then x else y) s)
   act-stops s (op.Return (Some a)) = given-stops (number_at s a) _ (λ n. returns-stops s s.waiting (Some n))
   act-stops s (op.Return None) = returns-stops s s.waiting None
 
