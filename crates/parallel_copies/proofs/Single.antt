@@ -272,6 +272,7 @@ exchange-bytes site frame a b s framed other =
       size = framed.sound.size;
       above = framed.sound.above;
       below = framed.sound.below;
+      small = framed.sound.small;
       registers = AreRegisters-set (byte_place a) y m.registers (registers.below (byte_place b)) registers_m;
     } in
     let R : ℕ → Type 0 = OutsideBoth (InByte a) (InByte b) in
