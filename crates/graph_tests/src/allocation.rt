@@ -1,4 +1,4 @@
-//! The map of a small graph, and the board of one of its points, by hand.
+//! The map of a small graph, the board of one of its points, and the areas of ops without sign, by hand.
 
 ghost use Rattle.allocator.specs.PointMaps.{bytes_of_arrays};
 ghost use Rattle.allocator.specs.SplitForms.{FixedOperandsDie, placed_count};
@@ -7,11 +7,11 @@ ghost use Rattle.std.specs.Prelude.{◌≡◌, ◌<◌, ◌≤◌, ◌+◌, ◌*
 
 use crate::building::{add_var, append, empty_graph};
 use crate::expected::expect;
-use allocator::{Elementary, allocate, board_of, split};
-use flow_graph::{Graph, Op};
+use allocator::{Elementary, allocate, areas_of, board_of, split};
+use flow_graph::{Graph, Op, Order};
 use flow_liveness::{live, next_use};
 use pcc_base::Steps;
-use puzzle_board::PointMap;
+use puzzle_board::{Area, Column, PointMap};
 use std::alloc::Global;
 use std::marker::Brand;
 use std::process::Abort;
@@ -72,4 +72,45 @@ fn small_map(rt: HostRuntime) {
     append(&rt, &mut graph, 0, Op::Const(0, 5));
     append(&rt, &mut graph, 0, Op::Return(Some(0)));
     expect_places(&rt, rt.alloc(), &graph);
+}
+
+/// The letter of a column: which of its rows are free.
+fn letter(column: Column) -> u8 {
+    match column {
+        Column::Both => b'B',
+        Column::Upper => b'U',
+        Column::Lower => b'L',
+        Column::Neither => b'N',
+    }
+}
+
+/// The letters of the low and the high column of EAX, EBX, ECX and EDX.
+fn letters(areas: [Area; 4]) -> [u8; 8] {
+    let [eax, ebx, ecx, edx] = areas;
+    [
+        letter(eax.low),
+        letter(eax.high),
+        letter(ebx.low),
+        letter(ebx.high),
+        letter(ecx.low),
+        letter(ecx.high),
+        letter(edx.low),
+        letter(edx.high),
+    ]
+}
+
+/// The count of a shift stands in CL before the op, a division takes all of EAX and EDX, and the others take nothing.
+#[test]
+fn areas_without_sign(rt: HostRuntime) {
+    let rows = [
+        (Op::Zero(0, 1), *b"BBBBBBBB"),
+        (Op::Shr(0, 1, 2), *b"BBBBLBBB"),
+        (Op::Udiv(0, 1, 2), *b"NNBBBBNN"),
+        (Op::Urem(0, 1, 2), *b"NNBBBBNN"),
+        (Op::Setu(Order::Lt, 0, 1, 2), *b"BBBBBBBB"),
+        (Op::Branchu(Order::Ge, 0, 1, 0, 1), *b"BBBBBBBB"),
+    ];
+    for (row, (op, want)) in rows.iter().enumerate() {
+        expect(&rt, &letters(areas_of(op)), want, row);
+    }
 }

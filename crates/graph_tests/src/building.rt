@@ -2,7 +2,7 @@
 
 ghost use Rattle.std.specs.Prelude.{◌≡◌, ◌<◌, length};
 ghost use Rattle.flow_graph.specs.Graphs.{empty_flow, with_block, with_op, with_variable, FitsOp, IsEnded};
-ghost use Rattle.pcc_base.specs.declared.run.Width.TheVariants.{Two};
+ghost use Rattle.pcc_base.specs.declared.run.Width.TheVariants.{One, Two};
 
 use flow_graph::{Graph, Op};
 use pcc_base::Width;
@@ -23,6 +23,15 @@ pub fn add_var(rt: &impl Abort, graph: &mut Graph) -> u32
     ensures graph { graph.new ≡ with_variable graph.old Two }
 {
     graph.add_var(Width::Two).expect(rt, "a variable")
+}
+
+/// Makes a variable of width One, and answers its number.
+pub fn add_byte(rt: &impl Abort, graph: &mut Graph) -> u32
+    requires { length graph.old.widths < 4294967295 }
+    ensures number { result ≡ length graph.old.widths }
+    ensures graph { graph.new ≡ with_variable graph.old One }
+{
+    graph.add_var(Width::One).expect(rt, "a variable")
 }
 
 /// Makes an empty block.

@@ -1,8 +1,8 @@
 //! Live variables and distances at the points of small graphs, by hand.
 
-use crate::building::{add_block, add_var, append, empty_graph};
+use crate::building::{add_block, add_byte, add_var, append, empty_graph};
 use crate::expected::expect;
-use flow_graph::{Comparison, Graph, Op};
+use flow_graph::{Comparison, Graph, Op, Order};
 use flow_liveness::{live, next_use};
 use std::alloc::Global;
 use std::process::Abort;
@@ -117,4 +117,50 @@ fn around_a_loop(rt: HostRuntime) {
     append(&rt, &mut graph, 2, Op::Return(Some(2)));
     expect_live(&rt, rt.alloc(), &graph, &LOOP_LIVE);
     expect_distances(&rt, rt.alloc(), &graph, &LOOP_DISTANCES);
+}
+
+/// The variables before and after each point of the loop of ops without sign.
+const UNSIGNED_LIVE: [(&[u32], &[u32]); 9] = [
+    (&[], &[0]),
+    (&[0], &[0, 1]),
+    (&[0, 1], &[0, 1, 2]),
+    (&[0, 1, 2], &[0, 2, 3]),
+    (&[0, 2, 3], &[0, 2, 3]),
+    (&[0, 2, 3], &[0, 2]),
+    (&[0, 2], &[0, 2, 3]),
+    (&[0, 2, 3], &[0]),
+    (&[0], &[]),
+];
+
+/// Distances in the loop of ops without sign.
+const UNSIGNED_DISTANCES: [(u32, u32, Option<u32>); 7] = [
+    (0, 0, Some(2)),
+    (1, 1, Some(1)),
+    (2, 2, Some(2)),
+    (3, 3, Some(1)),
+    (6, 3, Some(1)),
+    (7, 0, Some(1)),
+    (7, 1, Some(3)),
+];
+
+/// Each op without sign, in a block that leads back to itself.
+#[test]
+fn without_sign(rt: HostRuntime) {
+    let mut graph = empty_graph(&rt, rt.alloc());
+    add_var(&rt, &mut graph);
+    add_byte(&rt, &mut graph);
+    add_var(&rt, &mut graph);
+    add_var(&rt, &mut graph);
+    add_block(&rt, &mut graph);
+    append(&rt, &mut graph, 0, Op::Const(0, -7));
+    append(&rt, &mut graph, 0, Op::Const(1, 3));
+    append(&rt, &mut graph, 0, Op::Shr(2, 0, 1));
+    append(&rt, &mut graph, 0, Op::Zero(3, 1));
+    append(&rt, &mut graph, 0, Op::Udiv(2, 2, 3));
+    append(&rt, &mut graph, 0, Op::Urem(0, 0, 3));
+    append(&rt, &mut graph, 0, Op::Setu(Order::Lt, 3, 0, 2));
+    append(&rt, &mut graph, 0, Op::Branchu(Order::Ge, 3, 2, 0, 1));
+    append(&rt, &mut graph, 1, Op::Return(Some(0)));
+    expect_live(&rt, rt.alloc(), &graph, &UNSIGNED_LIVE);
+    expect_distances(&rt, rt.alloc(), &graph, &UNSIGNED_DISTANCES);
 }
