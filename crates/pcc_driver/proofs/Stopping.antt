@@ -2,7 +2,7 @@
 use Rattle.std.proofs.Common.{◌≡◌, ◌+◌, ◌-◌, ℕ, zero, suc, ℤ, List, [], ◌∷◌, Bool, true, false, Option, Some, None}
 use Rattle.std.proofs.Common.{sym, ap, ◌∙◌, subst, arith}
 use Rattle.std.specs.Prelude.{◌==◌, ◌++◌, ⊤, pos, negsuc, length, replicate, slice_get, option_map, nat_le}
-use Rattle.std.specs.Prelude.{if◌then◌else◌}
+use Rattle.std.specs.Prelude.{if◌then◌else◌, int_div, int_rem}
 use Rattle.pcc_base.specs.Outcome as outcome
 use Rattle.pcc_base.specs.Outcome.{End, Listing, Outcome, Visit, after_visits, Value, Number, ArrayName, Null, Static}
 use Rattle.pcc_base.specs.Outcome.{InFrame, Unknown}
@@ -16,7 +16,7 @@ use Rattle.flow_graph.specs.Meaning.{Moved, Moves, Halts, Stuck, step, act, at_p
 use Rattle.flow_graph.specs.Meaning.{of_width, accessed, checked, loads, stores, scalar_of, calls, most_active, resumes}
 use Rattle.flow_graph.specs.Meaning.{result_to, ends_program, returns_to, gets, no_quotient, no_unsigned_quotient}
 use Rattle.flow_graph.specs.Meaning.{divided_unless, two_numbers, one_number, comparison, ordering, bytes_of, enters}
-use Rattle.flow_graph.specs.Meaning.{values_at}
+use Rattle.flow_graph.specs.Meaning.{unsigned_quotient, unsigned_remainder, values_at}
 use Rattle.flow_graph.specs.Meaning.{low_byte, stored}
 use Rattle.flow_graph.specs.States.{with_array, with_element}
 use Rattle.flow_graph.specs.declared.op.Comparison.TheVariants.{Eq}
@@ -181,10 +181,10 @@ module _ (program : GraphProgram) where
   act-stops s (op.Shl d a c) = two-stops s d a c _
   act-stops s (op.Sar d a c) = two-stops s d a c _
   act-stops s (op.Shr d a c) = two-stops s d a c _
-  act-stops s (op.Div d a b) = divided-stops s no_quotient d a b _
-  act-stops s (op.Rem d a b) = divided-stops s no_quotient d a b _
-  act-stops s (op.Udiv d a b) = divided-stops s no_unsigned_quotient d a b _
-  act-stops s (op.Urem d a b) = divided-stops s no_unsigned_quotient d a b _
+  act-stops s (op.Div d a b) = divided-stops s no_quotient d a b int_div
+  act-stops s (op.Rem d a b) = divided-stops s no_quotient d a b int_rem
+  act-stops s (op.Udiv d a b) = divided-stops s no_unsigned_quotient d a b unsigned_quotient
+  act-stops s (op.Urem d a b) = divided-stops s no_unsigned_quotient d a b unsigned_remainder
   act-stops s (op.Set how d a b) = given-stops (comparison how s a b) _ (λ holds. sets-stops s d _)
   act-stops s (op.Setu how d a b) = given-stops (ordering how s a b) _ (λ holds. sets-stops s d _)
   act-stops s (op.Frame d k) = sets-stops s d _
