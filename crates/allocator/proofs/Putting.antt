@@ -17,13 +17,157 @@ use Rattle.puzzle_board.specs.declared.piece.Piece.{Piece}
 use Rattle.puzzle_board.specs.declared.place.Place.{Place}
 use Rattle.puzzle_board.specs.Places.{Entry, IsRising, PlaceMap, entries_at, place_in, with_after, with_before}
 use Rattle.puzzle_board.specs.Places.{with_place}
-use Rattle.puzzle_board.proofs.Sides.{rising-with, with-by}
+use Rattle.puzzle_board.proofs.Sides.{rising-with}
 use Rattle.allocator.specs.Order.{AreInOrder, Precedes}
 use Rattle.allocator.specs.Sides.{ArePut, ChangesPoint, is_lower, is_upper, with_kind}
 use Rattle.allocator.proofs.Listing.{order-at}
 use Rattle.allocator.proofs.Standing.{less-one}
 
 -- ---- what is found once a variable has a place
+
+same-by :
+    (e : Entry) (entries : List Entry) (v : ℕ) (place : Place) (more : List Entry) (b c : Bool) → (e.0 == v) ≡ b
+    → place_in more v ≡ Some place → place_in (with-by e entries v place more b c) v ≡ Some place
+unfolding with-by
+same-by e entries v place more true c test rest =
+    ap (λ (t : Bool). cond t (Some place) (place_in entries v)) (equal-test v v refl)
+same-by e entries v place more false true test rest =
+    ap (λ (t : Bool). cond t (Some place) (place_in (e ∷ entries) v)) (equal-test v v refl)
+same-by e entries v place more false false test rest =
+    ap (λ (t : Bool). cond t (Some e.1) (place_in more v)) test ∙ rest
+
+pub place-same : (entries : List Entry) (v : ℕ) (place : Place) → place_in (with_place entries v place) v ≡ Some place
+unfolding with-by
+place-same [] v place = ap (λ (t : Bool). cond t (Some place) None) (equal-test v v refl)
+place-same (e ∷ entries) v place =
+    same-by e entries v place (with_place entries v place) (e.0 == v) (ltb v e.0) refl (place-same entries v place)
+
+other-by :
+    (e : Entry) (entries : List Entry) (v w : ℕ) (place : Place) (more : List Entry) (b c : Bool) → (e.0 == v) ≡ b
+    → w ≢ v → place_in more w ≡ place_in entries w
+    → place_in (with-by e entries v place more b c) w ≡ place_in (e ∷ entries) w
+unfolding with-by
+other-by e entries v w place more true c test other rest =
+    let is = eqb-true e.0 v test in
+    ap (λ (t : Bool). cond t (Some place) (place_in entries w)) (other-test v w (λ f. other (sym f)))
+    ∙ sym (ap (λ (t : Bool). cond t (Some e.1) (place_in entries w)) (other-test e.0 w (λ f. other (sym (sym is ∙ f)))))
+other-by e entries v w place more false true test other rest =
+    ap (λ (t : Bool). cond t (Some place) (place_in (e ∷ entries) w)) (other-test v w (λ f. other (sym f)))
+other-by e entries v w place more false false test other rest =
+    ap (λ (o : Option Place). cond (e.0 == w) (Some e.1) o) rest
+
+pub place-other :
+    (entries : List Entry) (v w : ℕ) (place : Place) → w ≢ v
+    → place_in (with_place entries v place) w ≡ place_in entries w
+unfolding with-by
+place-other [] v w place other = ap (λ (t : Bool). cond t (Some place) None) (other-test v w (λ f. other (sym f)))
+place-other (e ∷ entries) v w place other =
+    other-by e entries v w place (with_place entries v place) (e.0 == v) (ltb v e.0) refl other
+    (place-other entries v w place other)
+
+-- ---- the entries' variables
+
+abbrev pub names_of : List Entry → List ℕ
+names_of entries = map (λ e. e.0) entries
+
+pub name-placed : (entries : List Entry) (v : ℕ) → IsIn v (names_of entries)
+    → (place : Place) × (place_in entries v ≡ Some place)
+name-placed [] v i = absurd i
+name-placed (e ∷ entries) v i = by (cases_eq e.0 v) i (λ h. name-placed entries v h)
+  where
+    by :
+        (e.0 ≡ v) ⊎ (e.0 ≢ v) → IsIn v (e.0 ∷ names_of entries)
+        → (IsIn v (names_of entries) → (place : Place) × (place_in entries v ≡ Some place))
+        → (place : Place) × (place_in (e ∷ entries) v ≡ Some place)
+    by (inl same) i rest = (e.1, ap (λ (t : Bool). cond t (Some e.1) (place_in entries v)) (equal-test e.0 v same))
+    by (inr other) (inl same) rest = absurd (other same)
+    by (inr other) (inr h) rest =
+        let (place, is) = rest h in
+        (place, ap (λ (t : Bool). cond t (Some e.1) (place_in entries v)) (other-test e.0 v other) ∙ is)
+
+pub placed-name : (entries : List Entry) (v : ℕ) (place : Place) → place_in entries v ≡ Some place
+    → IsIn v (names_of entries)
+placed-name [] v place is = absurd (none-some place is)
+placed-name (e ∷ entries) v place is = by (cases_eq e.0 v) (λ f. placed-name entries v place f)
+  where
+    by :
+        (e.0 ≡ v) ⊎ (e.0 ≢ v) → (place_in entries v ≡ Some place → IsIn v (names_of entries))
+        → IsIn v (names_of (e ∷ entries))
+    by (inl same) rest = inl same
+    by (inr other) rest =
+        inr (rest (sym (ap (λ (t : Bool). cond t (Some e.1) (place_in entries v)) (other-test e.0 v other)) ∙ is))
+
+above-names : (n : ℕ) (entries : List Entry) → AllByRecursion (λ (f : Entry). n < f.0) entries
+    → AllByRecursion (λ w. n < w) (names_of entries)
+above-names n [] h = tt
+above-names n (e ∷ entries) h = (h.0, above-names n entries h.1)
+
+pub names-ascend : (entries : List Entry) → IsRising entries → IsAscending (names_of entries)
+names-ascend [] h = tt
+names-ascend (e ∷ entries) h = (above-names e.0 entries h.0, names-ascend entries h.1)
+
+-- ---- ascending lists of the same members are the same
+
+first-same :
+    (x y : ℕ) (xs ys : List ℕ) → AllByRecursion (λ w. x < w) xs → AllByRecursion (λ w. y < w) ys → IsIn x (y ∷ ys)
+    → IsIn y (x ∷ xs) → x ≡ y
+first-same x y xs ys a b (inl e) j = sym e
+first-same x y xs ys a b (inr h) (inl e) = e
+first-same x y xs ys a b (inr h) (inr g) =
+    let low = every-in (λ w. y < w) x ys b h in
+    let high = every-in (λ w. x < w) y xs a g in
+    absurd (omega (arith, low, high))
+
+pub same-members :
+    (xs ys : List ℕ) → IsAscending xs → IsAscending ys → ((v : ℕ) → IsIn v xs ↔ IsIn v ys) → xs ≡ ys
+same-members [] [] a b h = refl
+same-members [] (y ∷ ys) a b h = absurd ((h y).1 (inl refl))
+same-members (x ∷ xs) [] a b h = absurd ((h x).0 (inl refl))
+same-members (x ∷ xs) (y ∷ ys) a b h =
+    let e : x ≡ y = first-same x y xs ys a.0 b.0 ((h x).0 (inl refl)) ((h y).1 (inl refl)) in
+    let rest : xs ≡ ys = same-members xs ys a.1 b.1 (λ v. (
+      (λ i. there v e i ((h v).0 (inr i))),
+      (λ i. back v e i ((h v).1 (inr i))),
+    )) in
+    ap (λ (z : ℕ). z ∷ xs) e ∙ ap (λ (zs : List ℕ). y ∷ zs) rest
+  where
+    there : (v : ℕ) → x ≡ y → IsIn v xs → IsIn v (y ∷ ys) → IsIn v ys
+    there v e i (inl f) = let low = every-in (λ w. x < w) v xs a.0 i in absurd (omega (arith, low, e, f))
+    there v e i (inr g) = g
+
+    back : (v : ℕ) → x ≡ y → IsIn v ys → IsIn v (x ∷ xs) → IsIn v xs
+    back v e i (inl f) = let low = every-in (λ w. y < w) v ys b.0 i in absurd (omega (arith, low, e, f))
+    back v e i (inr g) = g
+
+-- ---- pieces, one after another
+
+-- on a side on which not both an X and a Z stand, each variable has one piece at most
+abbrev pub IsSide : (Kind → Bool) → Type 0
+IsSide side = side X ≡ true → side Z ≡ true → ⊥
+
+pub upper-side : IsSide is_upper
+upper-side x z = true≢false (sym z)
+
+pub lower-side : IsSide is_lower
+lower-side x z = true≢false (sym x)
+
+two-apart :
+    (side : Kind → Bool) (p q : Piece) → IsSide side → Precedes p q → side p.kind ≡ true → side q.kind ≡ true
+    → p.var ≢ q.var
+two-apart side p q one (inl low) sp sq = λ e. absurd (omega (arith, low, e))
+two-apart side p q one (inr (same, x, z)) sp sq =
+    absurd (one (sym (ap side x) ∙ sp) (sym (ap side z) ∙ sq))
+
+pub put-none : (side : Kind → Bool) (pieces : List Piece) (places : List Place) (entries : List Entry) → entries ≡ []
+    → ArePut side pieces places 0 entries
+put-none side pieces places entries is = record {
+  rising = subst IsRising (sym is) tt;
+  has = λ k p place lt. absurd (omega (arith, lt));
+  only = λ v place e. absurd (none-some place (sym (ap (λ (es : List Entry). place_in es v) is) ∙ e));
+}
+
+with-by : Entry → List Entry → ℕ → Place → List Entry → Bool → Bool → List Entry
+with-by e entries v place more b c = cond b ((v, place) ∷ entries) (cond c ((v, place) ∷ e ∷ entries) (e ∷ more))
 
 same-by :
     (e : Entry) (entries : List Entry) (v : ℕ) (place : Place) (more : List Entry) (b c : Bool) → (e.0 == v) ≡ b

@@ -140,7 +140,7 @@ const UNSIGNED_DISTANCES: [(u32, u32, Option<u32>); 7] = [
     (3, 3, Some(1)),
     (6, 3, Some(1)),
     (7, 0, Some(1)),
-    (7, 1, Some(3)),
+    (7, 1, None),
 ];
 
 /// Each op without sign, in a block that leads back to itself.
