@@ -4,7 +4,8 @@ use Rattle.std.proofs.lemmas.Option.{none-some, same_Some}
 use Rattle.pcc_base.specs.declared.run.Width.{Width}
 use Rattle.pcc_base.specs.declared.run.Width.TheVariants.{One, Two}
 use Rattle.flow_graph.specs.declared.op.Op.{Op}
-use Rattle.flow_graph.specs.declared.op.Op.TheVariants.{Call, Div, Getchar, Putchar, Rem, Sar, Shl}
+use Rattle.flow_graph.specs.declared.op.Op.TheVariants.{Call, Div, Getchar, Putchar, Rem, Sar, Shl, Shr, Udiv}
+use Rattle.flow_graph.specs.declared.op.Op.TheVariants.{Urem}
 use Rattle.flow_graph.specs.Graphs.{FitsOp, Flow, HasWidth}
 use Rattle.puzzle_board.specs.Areas.{is_of_width}
 use Rattle.puzzle_board.specs.declared.piece.Spot.{Spot}
@@ -32,13 +33,18 @@ fixed-byte flow v spot f has wide within e =
 pub operand-at : (flow : Flow) (op : Op) (f : Fixed) → FitsOp flow op → fixed_use op ≡ Some f → IsFixedAt flow f
 operand-at flow (Shl d a c) f fits e = fixed-byte flow c cl f fits.1.1.0 refl (omega arith) e
 operand-at flow (Sar d a c) f fits e = fixed-byte flow c cl f fits.1.1.0 refl (omega arith) e
+operand-at flow (Shr d a c) f fits e = fixed-byte flow c cl f fits.1.1.0 refl (omega arith) e
 operand-at flow (Div d a b) f fits e = fixed-word flow a eax f fits.1.0 refl (omega arith) e
 operand-at flow (Rem d a b) f fits e = fixed-word flow a eax f fits.1.0 refl (omega arith) e
+operand-at flow (Udiv d a b) f fits e = fixed-word flow a eax f fits.1.0 refl (omega arith) e
+operand-at flow (Urem d a b) f fits e = fixed-word flow a eax f fits.1.0 refl (omega arith) e
 operand-at flow _ f fits e = absurd (none-some f e)
 
 pub result-at : (flow : Flow) (op : Op) (f : Fixed) → FitsOp flow op → fixed_result op ≡ Some f → IsFixedAt flow f
 result-at flow (Div d a b) f fits e = fixed-word flow d eax f fits.0 refl (omega arith) e
 result-at flow (Rem d a b) f fits e = fixed-word flow d edx f fits.0 refl (omega arith) e
+result-at flow (Udiv d a b) f fits e = fixed-word flow d eax f fits.0 refl (omega arith) e
+result-at flow (Urem d a b) f fits e = fixed-word flow d edx f fits.0 refl (omega arith) e
 result-at flow (Call (Some d) g words) f fits e = fixed-word flow d eax f fits.0 refl (omega arith) e
 result-at flow (Putchar d s) f fits e = fixed-word flow d eax f fits.0 refl (omega arith) e
 result-at flow (Getchar d) f fits e = fixed-word flow d eax f fits.0 refl (omega arith) e
