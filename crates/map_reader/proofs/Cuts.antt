@@ -10,10 +10,17 @@ use Rattle.std.proofs.lemmas.List.Elements.{All-head, All-push, All-tail}
 use Rattle.std.proofs.lemmas.List.Splits.{slice_split_at, slice_split_none}
 use Rattle.map_text.specs.Fields.{cut_at}
 use Rattle.map_reader.specs.Views.{texts}
-use Rattle.map_text.proofs.FieldsRead.{cut-none as cut_none}
 
 abbrev pub Avoids : ℕ → List ℕ → Type 0
 Avoids byte xs = All (λ b. (b == byte) ≡ false) xs
+
+-- no such byte is there
+cut_none : (byte : ℕ) (xs : List ℕ) → Avoids byte xs → cut_at byte xs ≡ None
+cut_none byte [] h = refl
+cut_none byte (x ∷ xs) h =
+    cond-false (x == byte) _ _ (All-head (λ b. (b == byte) ≡ false) x xs h)
+    ∙ ap (option_map (λ (parts : List ℕ × List ℕ). (x ∷ parts.0, parts.1)))
+    (cut_none byte xs (All-tail (λ b. (b == byte) ≡ false) x xs h))
 
 -- the first such byte stands behind these
 cut_behind : (byte : ℕ) (xs : List ℕ) (y : ℕ) (ys : List ℕ) → Avoids byte xs → (y == byte) ≡ true
