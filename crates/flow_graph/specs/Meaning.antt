@@ -1,11 +1,11 @@
 -- What each op does: one step from a state.
-use Rattle.std.specs.Prelude.{ℕ, ◌+◌, ◌/◌, ◌%◌, ◌^◌, ◌==◌, Bool, not, ℤ, pos, negsuc, ◌+ℤ◌, ◌-ℤ◌}
+use Rattle.std.specs.Prelude.{ℕ, ◌+◌, ◌%◌, ◌^◌, ◌==◌, Bool, not, ℤ, pos, negsuc, ◌+ℤ◌, ◌-ℤ◌}
 use Rattle.std.specs.Prelude.{◌*ℤ◌, neg_ℤ, int_lt, int_div, int_rem, List, [], ◌∷◌, ◌++◌, length, replicate, slice_get}
 use Rattle.std.specs.Prelude.{Option, Some, None, nat_le, nat_lt, if◌then◌else◌}
-use Rattle.std.specs.Int.{w8, w16, w32, int_wrap, int_bit_and, int_bit_or, int_bit_xor, int_bit_not, cast_signed}
-use Rattle.std.specs.Int.{cast_unsigned}
+use Rattle.std.specs.Int.{w8, w16, w32, int_wrap, int_bit_and, int_bit_or, int_bit_xor, int_bit_not}
 use Rattle.std.specs.Ordering.{int_eq}
-pub use Rattle.pcc_base.specs.Arithmetic.{no_quotient, same_array, shift_count, shifted_right}
+pub use Rattle.pcc_base.specs.Arithmetic.{no_quotient, no_unsigned_quotient, same_array, shift_count, shifted_right}
+pub use Rattle.pcc_base.specs.Arithmetic.{shifted_unsigned, unsigned, unsigned_quotient, unsigned_remainder, with_bits}
 use Rattle.pcc_base.specs.Outcome.{End, Ended, Trapped, ArrayName, Null, Static, InFrame, Value, Number, Array}
 use Rattle.pcc_base.specs.declared.run.Trap.TheVariants.{Divide, Check}
 use Rattle.flow_graph.specs.declared.op.Bits.{Bits}
@@ -71,14 +71,6 @@ divided program s d a b f = divided_unless no_quotient program s d a b f
 
 -- ---- numbers without sign
 
--- the number from 0 with the bits of a number of 32 bits
-abbrev pub unsigned : ℤ → ℕ
-unsigned n = cast_unsigned w32 n
-
--- the signed number with the bits of a number from 0 that has 32
-abbrev pub with_bits : ℕ → ℤ
-with_bits n = cast_signed w32 n
-
 -- the low 8 bits of a number, as a number from 0
 abbrev pub low_byte : ℤ → ℕ
 low_byte n = unsigned n % 256
@@ -86,20 +78,6 @@ low_byte n = unsigned n % 256
 -- a byte with zero bits above it
 abbrev pub zero_extended : ℤ → ℤ
 zero_extended n = pos (low_byte n)
-
--- a shift to the right that fills with zero bits
-abbrev pub shifted_unsigned : ℤ → ℕ → ℤ
-shifted_unsigned n k = with_bits (unsigned n / 2 ^ k)
-
--- only a zero divisor traps
-abbrev pub no_unsigned_quotient : ℤ → ℤ → Bool
-no_unsigned_quotient a b = int_eq b (pos 0)
-
-abbrev pub unsigned_quotient : ℤ → ℤ → ℤ
-unsigned_quotient a b = with_bits (unsigned a / unsigned b)
-
-abbrev pub unsigned_remainder : ℤ → ℤ → ℤ
-unsigned_remainder a b = with_bits (unsigned a % unsigned b)
 
 abbrev pub ordered : Order → ℤ → ℤ → Bool
 ordered order.Lt x y = nat_lt (unsigned x) (unsigned y)

@@ -1,6 +1,7 @@
 -- What the source language and graphs alike make of numbers, of arrays by their names, and of arrays' elements.
 use Rattle.std.specs.Prelude.{ℕ, ◌-◌, ◌/◌, ◌%◌, ◌^◌, ◌==◌, Bool, true, false, ◌&&◌, ℤ, pos, negsuc, List, Option, None}
 use Rattle.std.specs.Prelude.{if◌then◌else◌, slice_get, slice_set}
+use Rattle.std.specs.Int.{w32, cast_signed, cast_unsigned}
 use Rattle.std.specs.Ordering.{int_eq}
 use Rattle.pcc_base.specs.Outcome.{ArrayName, Null, Static, InFrame, Unknown}
 
@@ -17,6 +18,32 @@ shift_count (negsuc n) = 31 - n % 32
 abbrev pub shifted_right : ℤ → ℕ → ℤ
 shifted_right (pos n) k = pos (n / 2 ^ k)
 shifted_right (negsuc n) k = negsuc (n / 2 ^ k)
+
+-- ---- numbers without sign: each is held as the signed number with the same bits
+
+-- the number from 0 with the bits of a number of 32 bits
+abbrev pub unsigned : ℤ → ℕ
+unsigned n = cast_unsigned w32 n
+
+-- the signed number with the bits of a number from 0 that has 32
+abbrev pub with_bits : ℕ → ℤ
+with_bits n = cast_signed w32 n
+
+-- a shift to the right that fills with zero bits
+abbrev pub shifted_unsigned : ℤ → ℕ → ℤ
+shifted_unsigned n k = with_bits (unsigned n / 2 ^ k)
+
+-- only a zero divisor traps
+abbrev pub no_unsigned_quotient : ℤ → ℤ → Bool
+no_unsigned_quotient a b = int_eq b (pos 0)
+
+abbrev pub unsigned_quotient : ℤ → ℤ → ℤ
+unsigned_quotient a b = with_bits (unsigned a / unsigned b)
+
+abbrev pub unsigned_remainder : ℤ → ℤ → ℤ
+unsigned_remainder a b = with_bits (unsigned a % unsigned b)
+
+-- ---- arrays
 
 abbrev pub same_array : ArrayName → ArrayName → Bool
 same_array Null Null = true
