@@ -2,9 +2,11 @@ ghost use Rattle.std.specs.Prelude.{◌≡◌, not, pos, ◌%◌};
 ghost use Rattle.std.specs.Int.{cast_unsigned, w32};
 ghost use Rattle.std.specs.Ordering.{int_eq};
 ghost use Rattle.c_operators.specs.Numbers.{computed_of};
-ghost use Rattle.c_tree.specs.Operators.{numbers_value, unary_number};
+ghost use Rattle.c_tree.specs.Operators.{is_less, numbers_value, quotient, remainder, shift_count, shifted};
+ghost use Rattle.c_tree.specs.Operators.{unary_number};
 ghost use Rattle.c_tree.specs.Store.{converted};
 
+use crate::types::{is_signed, Operator};
 use c_tree::{BinaryOp, IntegerType, UnaryOp};
 use pcc_base::Trap;
 
@@ -16,7 +18,7 @@ pub fn convert(of: IntegerType, n: i32) -> i32
     match of {
         IntegerType::Char => i32::from(low_byte(n).cast_signed()),
         IntegerType::Short => i32::from(low_half(n).cast_signed()),
-        IntegerType::Int => n,
+        IntegerType::Int | IntegerType::UnsignedInt => n,
     }
 }
 
@@ -54,24 +56,73 @@ pub fn unary_number(op: UnaryOp, n: i32) -> i32
     }
 }
 
-/// What an operator gives of two numbers, or its trap (C99 6.5.5 to 6.5.12). Sums, differences, products and shifts
-/// wrap at 32 bits, and a shift count is taken modulo 32.
-#[tactic(auto, using(std::proofs::lemmas::Int::wraps, crate::proofs::Narrow::shifted_left, crate::proofs::Narrow::same_count))]
-pub fn binary_number(op: BinaryOp, a: i32, b: i32) -> Result<i32, Trap>
-    ensures { computed_of result ≡ numbers_value op a b }
+/// Whether the first number is below the second (C99 6.5.8).
+fn is_less(within: IntegerType, a: i32, b: i32) -> bool
+    ensures { result ≡ is_less within a b }
 {
-    match op {
+    if is_signed(within) {
+        a < b
+    } else {
+        a.cast_unsigned() < b.cast_unsigned()
+    }
+}
+
+/// The quotient, or a trap (C99 6.5.5p5).
+fn quotient(within: IntegerType, a: i32, b: i32) -> Result<i32, Trap>
+    ensures { computed_of result ≡ quotient within a b }
+{
+    if is_signed(within) {
+        a.checked_div(b).ok_or(Trap::Divide)
+    } else if b == 0 {
+        Err(Trap::Divide)
+    } else {
+        Ok((a.cast_unsigned() / b.cast_unsigned()).cast_signed())
+    }
+}
+
+/// The remainder, or a trap (C99 6.5.5p5).
+fn remainder(within: IntegerType, a: i32, b: i32) -> Result<i32, Trap>
+    ensures { computed_of result ≡ remainder within a b }
+{
+    if is_signed(within) {
+        a.checked_rem(b).ok_or(Trap::Divide)
+    } else if b == 0 {
+        Err(Trap::Divide)
+    } else {
+        Ok((a.cast_unsigned() % b.cast_unsigned()).cast_signed())
+    }
+}
+
+/// A number that is shifted to the right by a count, which is taken modulo 32 (C99 6.5.7p5).
+fn shifted_right(within: IntegerType, n: i32, count: i32) -> i32
+    ensures { result ≡ shifted within n (shift_count count) }
+{
+    if is_signed(within) {
+        n.wrapping_shr(count.cast_unsigned())
+    } else {
+        n.cast_unsigned().wrapping_shr(count.cast_unsigned()).cast_signed()
+    }
+}
+
+/// What an operator gives of two numbers in the type that it works in, or its trap (C99 6.5.5 to 6.5.12). Sums,
+/// differences, products and shifts wrap at 32 bits, and a shift count is taken modulo 32.
+#[tactic(auto, using(std::proofs::lemmas::Int::wraps, crate::proofs::Narrow::shifted_left, crate::proofs::Narrow::same_count))]
+pub fn binary_number(operator: Operator, a: i32, b: i32) -> Result<i32, Trap>
+    ensures { computed_of result ≡ numbers_value operator.within operator.op a b }
+{
+    let within = operator.within;
+    match operator.op {
         BinaryOp::Multiply => Ok(a.wrapping_mul(b)),
-        BinaryOp::Divide => a.checked_div(b).ok_or(Trap::Divide),
-        BinaryOp::Remainder => a.checked_rem(b).ok_or(Trap::Divide),
+        BinaryOp::Divide => quotient(within, a, b),
+        BinaryOp::Remainder => remainder(within, a, b),
         BinaryOp::Add => Ok(a.wrapping_add(b)),
         BinaryOp::Subtract => Ok(a.wrapping_sub(b)),
         BinaryOp::ShiftLeft => Ok(a.wrapping_shl(b.cast_unsigned())),
-        BinaryOp::ShiftRight => Ok(a.wrapping_shr(b.cast_unsigned())),
-        BinaryOp::Less => Ok(i32::from(a < b)),
-        BinaryOp::Greater => Ok(i32::from(a > b)),
-        BinaryOp::LessOrEqual => Ok(i32::from(a <= b)),
-        BinaryOp::GreaterOrEqual => Ok(i32::from(a >= b)),
+        BinaryOp::ShiftRight => Ok(shifted_right(within, a, b)),
+        BinaryOp::Less => Ok(i32::from(is_less(within, a, b))),
+        BinaryOp::Greater => Ok(i32::from(is_less(within, b, a))),
+        BinaryOp::LessOrEqual => Ok(i32::from(!is_less(within, b, a))),
+        BinaryOp::GreaterOrEqual => Ok(i32::from(!is_less(within, a, b))),
         BinaryOp::Equal => Ok(i32::from(a == b)),
         BinaryOp::NotEqual => Ok(i32::from(a != b)),
         BinaryOp::BitAnd => Ok(a & b),

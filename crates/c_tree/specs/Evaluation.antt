@@ -11,15 +11,17 @@ use Rattle.c_tree.specs.declared.expression.BinaryOp.{BinaryOp}
 use Rattle.c_tree.specs.declared.expression.BinaryOp.TheVariants.{Add}
 use Rattle.c_tree.specs.declared.statement.Label.{Label}
 use Rattle.c_tree.specs.declared.types.IntegerType.{IntegerType}
+use Rattle.c_tree.specs.declared.types.IntegerType.TheVariants.{Int}
 use Rattle.c_tree.specs.declared.types.ValueType.{ValueType}
 use Rattle.c_tree.specs.declared.types.ValueType.TheVariants.{Integer}
-use Rattle.c_tree.specs.Operators.{Computed, Computes, Traps, is_true, unary_value, binary_value, step_op, step_result}
+use Rattle.c_tree.specs.Operators.{Computed, Computes, Traps, is_true, unary_value, binary_value, working_type, step_op}
+use Rattle.c_tree.specs.Operators.{step_type, step_result}
 use Rattle.c_tree.specs.Program.{Expression, Constant, Start, Read, Address, Unary, Binary, And, Or, Conditional, Cast}
 use Rattle.c_tree.specs.Program.{Assign, Update, Step, Comma, Call, Putchar, Getchar, Exit, Place, LocalPlace}
 use Rattle.c_tree.specs.Program.{StaticPlace, Target, Element, Arguments, NoMore, Argument, Initialiser, Elements, Text}
 use Rattle.c_tree.specs.Program.{Item, Scalar, Array, First, Nothing, Evaluated as EvaluatedFirst, Declared, Statement}
 use Rattle.c_tree.specs.Program.{Declare, Empty, Evaluate, Block, If, While, Do, For, Switch, Break, Continue, Return}
-use Rattle.c_tree.specs.Program.{Statements, Done, Next, Local, Function, Program}
+use Rattle.c_tree.specs.Program.{Statements, Done, Next, Local, Function, Program, value_type}
 use Rattle.c_tree.specs.Store.{Held, HoldsNumber, HoldsPointer, converted, in_type, zero_of, Activation, State, held}
 use Rattle.c_tree.specs.Store.{with_local, array_named, with_array, array_of, element_at, with_element, first_values}
 use Rattle.c_tree.specs.Store.{first_array, visited, Evaluated, Gives, Ends, and_then, take_turn}
@@ -97,9 +99,10 @@ Calls = ℕ → List Held → State → Evaluated Held
 abbrev pub truth_value : Bool → Held
 truth_value b = HoldsNumber (if b then pos 1 else pos 0)
 
--- an assignment with an operator: the place is found and loaded, then comes the right side, then the store
-abbrev pub updated : ValueType → BinaryOp → Found → Held → Held → State → Evaluated Held
-updated of op found old value s = and_then (computed (binary_value op old value) s)
+-- an assignment with an operator, which works in a type: the place is found and loaded, then comes the right side, then
+-- the store
+abbrev pub updated : ValueType → IntegerType → BinaryOp → Found → Held → Held → State → Evaluated Held
+updated of within op found old value s = and_then (computed (binary_value within op old value) s)
     (λ new s'. store found (in_type of new) s')
 
 abbrev mutual
@@ -111,7 +114,8 @@ abbrev mutual
   evaluate calls (Unary of op e) s = and_then (evaluate calls e s) (λ v s'. Gives (unary_value of op v) s')
   evaluate calls (Binary of op a b) s =
       and_then (evaluate calls a s) (λ x s'.
-      and_then (evaluate calls b s') (λ y s''. computed (binary_value op x y) s''))
+      and_then (evaluate calls b s') (λ y s''.
+      computed (binary_value (working_type op (value_type a) (value_type b)) op x y) s''))
   evaluate calls (And a b) s =
       and_then (evaluate calls a s) (λ x s'. if is_true x
       then and_then (evaluate calls b s') (λ y s''. Gives (truth_value (is_true y)) s'')
@@ -128,11 +132,12 @@ abbrev mutual
       and_then (evaluate calls e s') (λ v s''. store found (in_type of v) s''))
   evaluate calls (Update of op place e) s =
       and_then (locate calls place s) (λ found s'.
-      and_then (load found s') (λ old s''. and_then (evaluate calls e s'') (updated of op found old)))
+      and_then (load found s') (λ old s''. and_then (evaluate calls e s'')
+      (updated of (working_type op of (value_type e)) op found old)))
   evaluate calls (Step of op place) s =
       and_then (locate calls place s) (λ found s'.
       and_then (load found s') (λ old s''.
-      and_then (updated of (step_op op) found old (HoldsNumber (pos 1)) s'')
+      and_then (updated of (step_type op of) (step_op op) found old (HoldsNumber (pos 1)) s'')
       (λ new s'''. Gives (step_result op old new) s''')))
   evaluate calls (Comma a b) s = and_then (evaluate calls a s) (λ x s'. evaluate calls b s')
   evaluate calls (Call of f arguments) s = and_then (evaluate_all calls arguments s) (calls f)
@@ -147,7 +152,7 @@ abbrev mutual
   locate calls (Element element a i) s =
       and_then (evaluate calls a s) (λ x s'.
       and_then (evaluate calls i s') (λ y s''.
-      and_then (computed (binary_value Add x y) s'') (λ v s'''. Gives (target_of v) s''')))
+      and_then (computed (binary_value Int Add x y) s'') (λ v s'''. Gives (target_of v) s''')))
 
   pub evaluate_all : Calls → Arguments → State → Evaluated (List Held)
   evaluate_all calls NoMore s = Gives [] s

@@ -1,7 +1,7 @@
 -- How large a program and its parts are.
 use Rattle.std.specs.Prelude.{ℕ, suc, ◌+◌, ◌*◌, ◌/◌, max, List, [], ◌∷◌, length, Option, Some, None, sum_by}
 use Rattle.c_tree.specs.declared.types.IntegerType.{IntegerType}
-use Rattle.c_tree.specs.declared.types.IntegerType.TheVariants.{Char, Short, Int}
+use Rattle.c_tree.specs.declared.types.IntegerType.TheVariants.{Char, Short, Int, UnsignedInt}
 use Rattle.c_tree.specs.Program.{Expression, Constant, Start, Read, Address, Unary, Binary, And, Or, Conditional, Cast}
 use Rattle.c_tree.specs.Program.{Assign, Update, Step, Comma, Call, Putchar, Getchar, Exit, Place, LocalPlace}
 use Rattle.c_tree.specs.Program.{StaticPlace, Target, Element, Arguments, NoMore, Argument, Initialiser, Elements, Text}
@@ -174,6 +174,7 @@ abbrev pub bytes_of : IntegerType → ℕ
 bytes_of Char = 1
 bytes_of Short = 2
 bytes_of Int = 4
+bytes_of UnsignedInt = 4
 
 -- an array has a word with its element count, and its elements, padded to words
 abbrev pub array_bytes : LocalArray → ℕ

@@ -8,7 +8,7 @@ use Rattle.pcc_base.specs.Outcome.{End, Goes, Trapped, ArrayName, Value, Number,
 use Rattle.pcc_base.specs.Outcome as outcome
 use Rattle.pcc_base.specs.declared.run.Trap.TheVariants.{Check}
 use Rattle.c_tree.specs.declared.types.IntegerType.{IntegerType}
-use Rattle.c_tree.specs.declared.types.IntegerType.TheVariants.{Char, Short, Int}
+use Rattle.c_tree.specs.declared.types.IntegerType.TheVariants.{Char, Short, Int, UnsignedInt}
 use Rattle.c_tree.specs.declared.types.ValueType.{ValueType}
 use Rattle.c_tree.specs.declared.types.ValueType.TheVariants.{Void, Integer, Pointer}
 use Rattle.c_tree.specs.declared.expression.ArrayRef.{ArrayRef}
@@ -25,11 +25,13 @@ null_pointer = HoldsPointer outcome.Null (pos 0)
 
 -- ---- what a type does to a value
 
--- A conversion to a narrower integer type keeps the low bits (C99 6.3.1.3); every number is one of `int`.
+-- A conversion to a narrower integer type keeps the low bits (C99 6.3.1.3); every number is one of `int`, and one of
+-- `unsigned int` is held as the `int` with the same bits.
 abbrev pub converted : IntegerType → ℤ → ℤ
 converted Char n = int_wrap w8 n
 converted Short n = int_wrap w16 n
 converted Int n = n
+converted UnsignedInt n = n
 
 -- A value in a type; a number becomes a pointer only where it is the null constant (C99 6.3.2.3).
 abbrev pub in_type : ValueType → Held → Held

@@ -19,6 +19,7 @@ use Rattle.c_tree.specs.declared.types.IntegerType.TheVariants.{Int}
 use Rattle.c_tree.specs.declared.types.ValueType.{ValueType}
 use Rattle.c_tree.specs.declared.types.ValueType.TheVariants.{Void, Integer, Pointer}
 use Rattle.c_tree.specs.Objects.{IsObject, data_objects}
+use Rattle.c_tree.specs.Operators.{common, numbers_result, numbers_type, unary_type}
 use Rattle.c_tree.specs.Program.{int, value_type, Expression, Constant, Start, Read, Address, Unary, Binary, And, Or}
 use Rattle.c_tree.specs.Program.{Conditional, Cast, Assign, Update, Step, Comma, Call, Putchar, Getchar, Exit, Place}
 use Rattle.c_tree.specs.Program.{LocalPlace, StaticPlace, Target, Element, Arguments, NoMore, Argument, Initialiser}
@@ -61,7 +62,7 @@ CanCast to from = CanAssign to from
 -- the operator on an operand of the type has a result of the integer type (C99 6.5.3.3)
 abbrev pub UnaryGives : UnaryOp → ValueType → IntegerType → Type 0
 UnaryGives op Void of = ⊥
-UnaryGives op (Integer t) of = of ≡ Int
+UnaryGives op (Integer t) of = of ≡ unary_type op t
 UnaryGives op (Pointer t) of = (op ≡ Not) × (of ≡ Int)
 
 -- the operator on a pointer and a number, in this order, has a result of the type (C99 6.5.6 and 6.5.9)
@@ -92,7 +93,7 @@ TakesPointers _ = ⊥
 
 -- the operator on operands of the two types has a result of the third (C99 6.5.5 to 6.5.12)
 abbrev pub BinaryGives : BinaryOp → ValueType → ValueType → ValueType → Type 0
-BinaryGives op (Integer t) (Integer u) of = of ≡ int
+BinaryGives op (Integer t) (Integer u) of = of ≡ Integer (numbers_result op (numbers_type op t u))
 BinaryGives op (Pointer t) (Integer u) of = PointerNumberGives op t of
 BinaryGives op (Integer t) (Pointer u) of = NumberPointerGives op u of
 BinaryGives op (Pointer t) (Pointer u) of = (u ≡ t) × TakesPointers op × (of ≡ int)
@@ -101,7 +102,7 @@ BinaryGives op _ _ of = ⊥
 -- `?:` with operands of the first two types has a result of the third (C99 6.5.15)
 abbrev pub ConditionalGives : ValueType → ValueType → ValueType → Type 0
 ConditionalGives Void Void of = of ≡ Void
-ConditionalGives (Integer t) (Integer u) of = of ≡ int
+ConditionalGives (Integer t) (Integer u) of = of ≡ Integer (common t u)
 ConditionalGives (Pointer t) (Pointer u) of = (u ≡ t) × (of ≡ Pointer t)
 ConditionalGives (Pointer t) (Integer u) of = of ≡ Pointer t
 ConditionalGives (Integer t) (Pointer u) of = of ≡ Pointer u

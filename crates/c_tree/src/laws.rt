@@ -1,8 +1,19 @@
 //! Laws of the definitions: each function's contract is one, and the function does nothing.
 
-ghost use Rattle.std.specs.Prelude.{◌≡◌, [], ◌∷◌, pos, negsuc};
+ghost use Rattle.std.specs.Prelude.{◌≡◌, [], ◌∷◌, false, negsuc, pos, true};
 ghost use Rattle.pcc_base.specs.Outcome.{Ended, Goes};
+ghost use Rattle.pcc_base.specs.declared.run.Trap.TheVariants.{Divide};
 ghost use Rattle.c_tree.specs.Evaluation.{source_outcome};
+ghost use Rattle.c_tree.specs.Operators.{
+  Traps,
+  common,
+  number,
+  numbers_result,
+  numbers_type,
+  numbers_value,
+  truth,
+  unary_type,
+};
 ghost use Rattle.c_tree.specs.Sizes.{function_size};
 ghost use Rattle.c_tree.specs.Worked.{
   breaks_nothing,
@@ -20,6 +31,10 @@ ghost use Rattle.c_tree.specs.Worked.{
   x_listed,
 };
 ghost use Rattle.c_tree.specs.WellTyped.{WellTyped};
+ghost use Rattle.c_tree.specs.declared.expression.BinaryOp.TheVariants.{Divide as Division, Greater, Less, Remainder};
+ghost use Rattle.c_tree.specs.declared.expression.BinaryOp.TheVariants.{ShiftRight};
+ghost use Rattle.c_tree.specs.declared.expression.UnaryOp.TheVariants.{Not};
+ghost use Rattle.c_tree.specs.declared.types.IntegerType.TheVariants.{Char, Int, Short, UnsignedInt};
 
 /// The definitions give small programs (`specs/Worked.antt`) the outcomes that a reader expects.
 ///
@@ -63,4 +78,25 @@ pub fn worked_types()
     ensures local { WellTyped reads_no_local → ⊥ }
     ensures value { WellTyped returns_no_value → ⊥ }
     ensures numbers { WellTyped (numbered_from 1) → ⊥ }
+{}
+
+/// The operators give of numbers with and without a sign what a reader expects of C99 6.3.1 and 6.5.5 to 6.5.8: the type
+/// that two numbers have in common, that of a shift and that of a comparison, quotients, remainders, shifts and orders,
+/// and which of them trap.
+pub fn worked_operators()
+    ensures narrow { common Char Short ≡ Int }
+    ensures mixed { common Char UnsignedInt ≡ UnsignedInt }
+    ensures shifts { numbers_type ShiftRight Short UnsignedInt ≡ Int }
+    ensures compares { numbers_result Less (numbers_type Less UnsignedInt Int) ≡ Int }
+    ensures negates { unary_type Not UnsignedInt ≡ Int }
+    ensures signed_quotient { numbers_value Int Division (negsuc 6) (pos 2) ≡ number (negsuc 2) }
+    ensures unsigned_quotient { numbers_value UnsignedInt Division (negsuc 6) (pos 2) ≡ number (pos 2147483644) }
+    ensures unsigned_remainder { numbers_value UnsignedInt Remainder (negsuc 0) (pos 10) ≡ number (pos 5) }
+    ensures signed_shift { numbers_value Int ShiftRight (negsuc 2147483647) (pos 31) ≡ number (negsuc 0) }
+    ensures unsigned_shift { numbers_value UnsignedInt ShiftRight (negsuc 2147483647) (pos 31) ≡ number (pos 1) }
+    ensures signed_order { numbers_value Int Greater (negsuc 0) (pos 0) ≡ truth false }
+    ensures unsigned_order { numbers_value UnsignedInt Greater (negsuc 0) (pos 0) ≡ truth true }
+    ensures signed_trap { numbers_value Int Division (negsuc 2147483647) (negsuc 0) ≡ Traps Divide }
+    ensures unsigned_quotient_of_all { numbers_value UnsignedInt Division (negsuc 2147483647) (negsuc 0) ≡ number (pos 0) }
+    ensures unsigned_trap { numbers_value UnsignedInt Remainder (pos 1) (pos 0) ≡ Traps Divide }
 {}

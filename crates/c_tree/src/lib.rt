@@ -15,7 +15,7 @@ mod statement;
 mod types;
 
 pub use expression::{ArrayRef, BinaryOp, Expression, Place, StepOp, UnaryOp};
-pub use laws::{worked_example, worked_types};
+pub use laws::{worked_example, worked_operators, worked_types};
 pub use program::{Function, Local, LocalArray, Program, StaticObject};
 pub use statement::{First, Initialiser, Item, Label, Statement};
 pub use types::{IntegerType, ValueType};

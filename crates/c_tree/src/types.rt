@@ -1,4 +1,4 @@
-/// The integer types of the language (C99 6.2.5); `char` is signed.
+/// The integer types of the language (C99 6.2.5); `char` is signed. No word of the text names `UnsignedInt` yet.
 #[derive(Clone, Copy, PartialEq, Eq)]
 pub enum IntegerType {
     /// 8 bits.
@@ -7,6 +7,8 @@ pub enum IntegerType {
     Short,
     /// 32 bits.
     Int,
+    /// 32 bits, without a sign; a number of it is held as the signed number with the same bits.
+    UnsignedInt,
 }
 
 /// The type of an expression, of a local that is no array, or of a function's result (C99 6.2.5).

@@ -12,7 +12,7 @@ use Rattle.c_syntax.specs.Expressions.{Star, Expr, Exprs, NoExpr, OneExpr}
 use Rattle.c_syntax.specs.Declarations.{ArrayTree, ParameterTree, PartTree, Plain, Array, Function, DeclaratorTree}
 use Rattle.c_syntax.specs.Declarations.{InitialiserTree, Single, Braces, ValueTree}
 use Rattle.c_tree.specs.declared.types.IntegerType.{IntegerType}
-use Rattle.c_tree.specs.declared.types.IntegerType.TheVariants.{Char, Short, Int}
+use Rattle.c_tree.specs.declared.types.IntegerType.TheVariants.{Char, Short, Int, UnsignedInt}
 use Rattle.c_tree.specs.declared.types.ValueType.{ValueType}
 use Rattle.c_tree.specs.declared.types.ValueType.TheVariants.{Void, Integer, Pointer}
 use Rattle.c_typing.specs.Faults.{fault}
@@ -59,6 +59,7 @@ abbrev pub array_values : IntegerType → InitialiserTree → ArrayValues
 array_values Char value = char_values value
 array_values Short value = other_values value
 array_values Int value = other_values value
+array_values UnsignedInt value = other_values value
 
 -- ---- sizes of arrays (C99 6.7.5.2)
 

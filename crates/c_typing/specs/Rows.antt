@@ -22,6 +22,7 @@ use Rattle.c_tree.specs.declared.types.IntegerType.{IntegerType}
 use Rattle.c_tree.specs.declared.types.IntegerType.TheVariants.{Int}
 use Rattle.c_tree.specs.declared.types.ValueType.{ValueType}
 use Rattle.c_tree.specs.declared.types.ValueType.TheVariants.{Void, Integer, Pointer}
+use Rattle.c_tree.specs.Operators.{common, promoted}
 use Rattle.c_tree.specs.Program.{int, value_type, Expression, Constant, Start, Read, Address, Unary, Binary, And, Or}
 use Rattle.c_tree.specs.Program.{Conditional, Cast, Assign, Update, Step, Comma, Call, Putchar, Getchar, Exit}
 use Rattle.c_tree.specs.Program.{Place, LocalPlace, StaticPlace, Target, Element}
@@ -40,24 +41,29 @@ row_at at types (Some of) tree = fits (tree of)
 
 -- ---- types of results
 
--- `* / % << >> & ^ |` take two numbers
+-- `* / % & ^ |` take two numbers, and give one of their common type (C99 6.5.5 and 6.5.10 to 6.5.12)
 abbrev pub of_numbers : ValueType → ValueType → Option ValueType
-of_numbers (Integer t) (Integer u) = Some int
+of_numbers (Integer t) (Integer u) = Some (Integer (common t u))
 of_numbers _ _ = None
+
+-- `<< >>` take two numbers, and give one of the promoted left type (C99 6.5.7p3)
+abbrev pub of_shift : ValueType → ValueType → Option ValueType
+of_shift (Integer t) (Integer u) = Some (Integer (promoted t))
+of_shift _ _ = None
 
 abbrev pub if_same : IntegerType → IntegerType → ValueType → Option ValueType
 if_same t u of = if same_integer t u then Some of else None
 
 -- `+` takes a pointer and a number too, in either order (C99 6.5.6p2)
 abbrev pub of_sum : ValueType → ValueType → Option ValueType
-of_sum (Integer t) (Integer u) = Some int
+of_sum (Integer t) (Integer u) = Some (Integer (common t u))
 of_sum (Pointer t) (Integer u) = Some (Pointer t)
 of_sum (Integer t) (Pointer u) = Some (Pointer u)
 of_sum _ _ = None
 
 -- `-` takes a pointer and a number too, or two pointers of one type (C99 6.5.6p3)
 abbrev pub of_difference : ValueType → ValueType → Option ValueType
-of_difference (Integer t) (Integer u) = Some int
+of_difference (Integer t) (Integer u) = Some (Integer (common t u))
 of_difference (Pointer t) (Integer u) = Some (Pointer t)
 of_difference (Pointer t) (Pointer u) = if_same t u int
 of_difference _ _ = None
@@ -83,7 +89,7 @@ of_equality t null u other = option_map (λ of. int) (of_pointers t null u other
 
 -- the second and third operand of `?:` (C99 6.5.15p3)
 abbrev pub of_choice : ValueType → Bool → ValueType → Bool → Option ValueType
-of_choice (Integer t) null (Integer u) other = Some int
+of_choice (Integer t) null (Integer u) other = Some (Integer (common t u))
 of_choice Void null Void other = Some Void
 of_choice t null u other = of_pointers t null u other
 
@@ -117,8 +123,9 @@ selected (Pointer t) at e = misfit at (Pointer t ∷ [])
 
 -- ---- one operand (C99 6.5.3)
 
+-- `+ - ~` give a number of the promoted type (C99 6.5.3.3)
 abbrev pub on_number : UnaryOp → Span → ValueType → Expression → Checked Expression
-on_number op at (Integer t) e = fits (Unary Int op e)
+on_number op at (Integer t) e = fits (Unary (promoted t) op e)
 on_number op at Void e = misfit at (Void ∷ [])
 on_number op at (Pointer t) e = misfit at (Pointer t ∷ [])
 
@@ -209,8 +216,8 @@ binary_row raw_binary.Divide = operated of_numbers Divide
 binary_row raw_binary.Remainder = operated of_numbers Remainder
 binary_row raw_binary.Add = operated of_sum Add
 binary_row raw_binary.Subtract = operated of_difference Subtract
-binary_row raw_binary.ShiftLeft = operated of_numbers ShiftLeft
-binary_row raw_binary.ShiftRight = operated of_numbers ShiftRight
+binary_row raw_binary.ShiftLeft = operated of_shift ShiftLeft
+binary_row raw_binary.ShiftRight = operated of_shift ShiftRight
 binary_row raw_binary.Less = operated of_order Less
 binary_row raw_binary.Greater = operated of_order Greater
 binary_row raw_binary.LessEqual = operated of_order LessOrEqual
@@ -265,8 +272,8 @@ to_place_row raw_assign.Divide = update_row of_numbers Divide
 to_place_row raw_assign.Remainder = update_row of_numbers Remainder
 to_place_row raw_assign.Add = update_row of_sum Add
 to_place_row raw_assign.Subtract = update_row of_difference Subtract
-to_place_row raw_assign.ShiftLeft = update_row of_numbers ShiftLeft
-to_place_row raw_assign.ShiftRight = update_row of_numbers ShiftRight
+to_place_row raw_assign.ShiftLeft = update_row of_shift ShiftLeft
+to_place_row raw_assign.ShiftRight = update_row of_shift ShiftRight
 to_place_row raw_assign.BitAnd = update_row of_numbers BitAnd
 to_place_row raw_assign.BitXor = update_row of_numbers BitXor
 to_place_row raw_assign.BitOr = update_row of_numbers BitOr

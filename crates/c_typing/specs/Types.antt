@@ -7,7 +7,7 @@ use Rattle.c_syntax.specs.declared.operator.SpecifierWord.TheVariants as words
 use Rattle.c_syntax.specs.declared.expression.Specifier.{Specifier}
 use Rattle.c_syntax.specs.Expressions.{Star}
 use Rattle.c_tree.specs.declared.types.IntegerType.{IntegerType}
-use Rattle.c_tree.specs.declared.types.IntegerType.TheVariants.{Char, Short, Int}
+use Rattle.c_tree.specs.declared.types.IntegerType.TheVariants.{Char, Short, Int, UnsignedInt}
 use Rattle.c_tree.specs.declared.types.ValueType.{ValueType}
 use Rattle.c_tree.specs.declared.types.ValueType.TheVariants.{Void, Integer, Pointer}
 use Rattle.c_tree.specs.Program.{int}
@@ -18,6 +18,7 @@ abbrev pub same_integer : IntegerType → IntegerType → Bool
 same_integer Char Char = true
 same_integer Short Short = true
 same_integer Int Int = true
+same_integer UnsignedInt UnsignedInt = true
 same_integer _ _ = false
 
 abbrev pub same_value : ValueType → ValueType → Bool

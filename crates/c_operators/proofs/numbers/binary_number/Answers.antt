@@ -1,5 +1,4 @@
-use Rattle.std.proofs.Common.{arith, rules}
-use Rattle.std.proofs.lemmas.Grind.{common_steps}
+use Rattle.std.proofs.Common.{rules}
 use Rattle.std.proofs.lemmas.Int.{wraps}
 use Rattle.c_operators.proofs.Narrow.{same_count, shifted_left}
 use Rattle.c_operators.proofs.numbers.binary_number.Goals as goal
@@ -11,7 +10,7 @@ pub returns-in-Divide : goal.returns-in-Divide
 returns-in-Divide c = search rules
 
 pub returns-in-Remainder : goal.returns-in-Remainder
-returns-in-Remainder c = grind (arith, common_steps)
+returns-in-Remainder c = search rules
 
 pub returns-in-Add : goal.returns-in-Add
 returns-in-Add c = search (rules, wraps)
