@@ -8,6 +8,7 @@ use Rattle.c_tree.specs.declared.expression.StepOp.{StepOp}
 use Rattle.c_tree.specs.declared.types.IntegerType.{IntegerType}
 use Rattle.c_tree.specs.declared.types.ValueType.{ValueType}
 use Rattle.c_tree.specs.declared.types.ValueType.TheVariants.{Void, Integer, Pointer}
+use Rattle.c_tree.specs.Operators.{working_type}
 use Rattle.c_tree.specs.Program.{int, Expression, Constant, Start, Read, Address, Unary, Binary, And, Or, Conditional}
 use Rattle.c_tree.specs.Program.{Cast, Assign, Update, Step, Comma, Call, Putchar, Getchar, Exit, LocalPlace}
 use Rattle.c_tree.specs.Program.{StaticPlace, Target, Element}
@@ -124,22 +125,25 @@ assign-element c of t to a level above w at x {s} {u} {v} {z} up h e k f m =
     (counted count (two (λ n. X.lines n (suc level) ++ M (n + X.blocks) P Q) h (two (λ n. M n P Q) k' m')))
 
 pub update-element : (c : Context) (of : ValueType) (o : BinaryOp) (t : IntegerType) (to : Addressed) (a : Part)
-    (level above : ℕ) (w : Wanted) (at x : Spot) {s u r v z : Built} → above ≡ level + 1
+    (level above : ℕ) (w : Wanted) (within : IntegerType) (at x : Spot) {s u r v z : Built} → above ≡ level + 1
+    → within ≡ working_type o (Integer t) a.of
     → Adds s u to.blocks (to.lines a.simple s.next level) → at ≡ to.spot a.simple level
     → Adds u r 0 (Emit (op.Load (bits_of t) (old_value c level) at.array at.number) ∷ [])
     → AddsOperand (operand c true a) above r v → x ≡ (operand c true a).spot above
-    → Adds v z 0 (renewing c v.next level w t o at x.number)
+    → Adds v z 0 (renewing c v.next level w t within o at x.number)
     → AddsPart (update_part c of o (AtAddress t to) a) level w s z
-update-element c of o t to a level above w at x {s} {u} {r} {v} {z} up h e l k f m =
+update-element c of o t to a level above w within at x {s} {u} {r} {v} {z} up we h e l k f m =
     let up' : above ≡ suc level = omega (arith, up) in
     let X = operand c true a in
     let k' : AddsOperand X (suc level) r v = subst (λ (n : ℕ). AddsOperand X n r v) up' k in
     let L : Spot → Line = λ p. Emit (op.Load (bits_of t) (old_value c level) p.array p.number) in
-    let M : ℕ → Spot → Spot → List Line = λ n p q. renewing c n level w t o p q.number in
+    let M : ℕ → Spot → Spot → List Line =
+    λ n p q. renewing c n level w t (working_type o (Integer t) a.of) o p q.number in
     let P = to.spot a.simple level in
     let Q = X.spot (suc level) in
     let m' : Adds v z 0 (M v.next P Q) =
-    lined (ap (λ p. M v.next p x) e ∙ ap (M v.next P) (f ∙ ap X.spot up')) m in
+    lined (ap (λ i. renewing c v.next level w t i o at x.number) we ∙ ap (λ p. M v.next p x) e
+    ∙ ap (M v.next P) (f ∙ ap X.spot up')) m in
     let l' : Adds u r 0 (L P ∷ []) = lined (ap (λ p. L p ∷ []) e) l in
     let N : ℕ → List Line = λ n. X.lines n (suc level) ++ M (n + X.blocks) P Q in
     let count : to.blocks + (X.blocks + 0) ≡ to.blocks + X.blocks = omega arith in
