@@ -16,10 +16,8 @@ use Rattle.c_tree.specs.Program.{StaticPlace, Target, Element}
 use Rattle.lower_lines.specs.Expressions.{assign_part}
 use Rattle.lower_lines.specs.Expressions.{assigned_local, local_part, part_of, place_of, read_part, step_part}
 use Rattle.lower_lines.specs.Expressions.{stepped_name, unary_part, update_part}
-use Rattle.lower_lines.specs.Parts.{Part, Wanted}
+use Rattle.lower_lines.specs.Parts.{Part}
 use Rattle.lower_lines.specs.Variables.{Context}
-use Rattle.lower_builder.specs.Built.{Built}
-use Rattle.lower_builder.specs.Views.{AddsPart}
 use Rattle.lower_expressions.specs.Kinds.{is_name, is_simple, name_stands, place_type, stands_in, step_type, type_in}
 
 -- ---- locals
@@ -92,15 +90,6 @@ unary c of Plus a = record { has = refl; simple = refl; stands = refl }
 unary c of Minus a = record { has = refl; simple = refl; stands = refl }
 unary c of Complement a = record { has = refl; simple = refl; stands = refl }
 unary c of Not a = record { has = refl; simple = refl; stands = refl }
-
--- what a unary operator takes and adds doesn't depend on the type of what it gives
-pub unary-adds : (c : Context) (t of : IntegerType) (operator : UnaryOp) (a : Part) (level : ℕ) (w : Wanted)
-    {old new : Built} → AddsPart (unary_part c t operator a) level w old new
-    → AddsPart (unary_part c of operator a) level w old new
-unary-adds c t of Plus a level w h = h
-unary-adds c t of Minus a level w h = h
-unary-adds c t of Complement a level w h = h
-unary-adds c t of Not a level w h = h
 
 -- ---- every expression
 
