@@ -35,7 +35,8 @@ expressions_step p l f (Update of op place e) ts vs fs s = finish-then (locate (
     ∙ finish-same (load found t) _ _ (λ old u. finish-then (evaluate (calls_of p l) e u) _ _))
 expressions_step p l f (Step of op place) ts vs fs s = finish-then (locate (calls_of p l) place s) _ _
     ∙ finish-same (locate (calls_of p l) place s) _ _ (λ found t. finish-then (load found t) _ _
-    ∙ finish-same (load found t) _ _ (λ old u. finish-then (updated of (step_type op of) (step_op op) found old _ u) _ _))
+    ∙ finish-same (load found t) _ _ (λ old u.
+    finish-then (updated of (step_type op of) (step_op op) found old _ u) _ _))
 expressions_step p l f (Comma a b) ts vs fs s = finish-then (evaluate (calls_of p l) a s) _ _
 expressions_step p l f (Call of k arguments) ts vs fs s = finish-then (evaluate_all (calls_of p l) arguments s) _ _
 expressions_step p l f (Putchar e) ts vs fs s = finish-then (evaluate (calls_of p l) e s) _ _

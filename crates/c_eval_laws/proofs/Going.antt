@@ -168,7 +168,8 @@ module _ (p : Program) (l : Listing) where
       (λ v t. goes-on ts f Ahead _ _ t)
   goes-on (Steps of op ∷ ts) f Ahead vs fs s =
       finish-from s (updated of (step_type op of) (step_op op) (top_place fs) (top vs) (HoldsNumber (pos 1)) s) _
-      ((updated-both {k = 0} {d = 0} of (step_type op of) (step_op op) (top_place fs) (top vs) (HoldsNumber (pos 1))).keeps s)
+      ((updated-both {k = 0} {d = 0} of (step_type op of) (step_op op) (top_place fs) (top vs)
+      (HoldsNumber (pos 1))).keeps s)
       (λ v t. goes-on ts f Ahead _ _ t)
   goes-on (Drops ∷ ts) f Ahead vs fs s = goes-on ts f Ahead _ _ s
   goes-on (Passes k es count ∷ ts) f Ahead vs fs s =
