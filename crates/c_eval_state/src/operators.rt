@@ -7,7 +7,7 @@ ghost use Rattle.c_tree.specs.Operators.{pointer_number_value};
 ghost use Rattle.c_tree.specs.Operators.{pointers_value, same_array, unary_value};
 
 use crate::value::{ArrayName, Value};
-use c_operators::{binary_number, convert, unary_number, Operator};
+use c_operators::{Operator, binary_number, convert, unary_number};
 use c_tree::{BinaryOp, IntegerType, UnaryOp};
 use pcc_base::Trap;
 
