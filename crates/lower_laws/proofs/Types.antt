@@ -12,7 +12,7 @@ use Rattle.c_tree.specs.declared.expression.StepOp.TheVariants.{PostDecrement}
 use Rattle.c_tree.specs.declared.expression.UnaryOp.{UnaryOp}
 use Rattle.c_tree.specs.declared.expression.UnaryOp.TheVariants.{Plus, Minus, Complement, Not}
 use Rattle.c_tree.specs.declared.types.IntegerType.{IntegerType}
-use Rattle.c_tree.specs.declared.types.IntegerType.TheVariants.{Char, Short, Int}
+use Rattle.c_tree.specs.declared.types.IntegerType.TheVariants.{Char, Short, Int, UnsignedInt}
 use Rattle.c_tree.specs.declared.types.ValueType.{ValueType}
 use Rattle.c_tree.specs.declared.types.ValueType.TheVariants.{Void, Integer, Pointer}
 use Rattle.c_tree.specs.Program.{value_type, Expression, Constant, Start, Read, Address, Unary, Binary, And, Or}
@@ -99,6 +99,7 @@ module _ (S : Site) where
   assigned-type (Integer Char) k a = refl
   assigned-type (Integer Short) k a = refl
   assigned-type (Integer Int) k a = refl
+  assigned-type (Integer UnsignedInt) k a = refl
   assigned-type (Pointer t) k a = refl
 
   read-type : (of : ValueType) (place : Place) → IsPlace S.program S.function place of
