@@ -14,7 +14,7 @@ use Rattle.c_tree.specs.declared.expression.BinaryOp.TheVariants.{ShiftRight, Le
 use Rattle.c_tree.specs.declared.expression.BinaryOp.TheVariants.{GreaterOrEqual, Equal, NotEqual, BitAnd, BitXor}
 use Rattle.c_tree.specs.declared.expression.BinaryOp.TheVariants.{BitOr}
 use Rattle.c_tree.specs.declared.types.IntegerType.{IntegerType}
-use Rattle.c_tree.specs.declared.types.IntegerType.TheVariants.{Char, Short, Int}
+use Rattle.c_tree.specs.declared.types.IntegerType.TheVariants.{Char, Short, Int, UnsignedInt}
 use Rattle.c_tree.specs.declared.types.ValueType.{ValueType}
 use Rattle.c_tree.specs.declared.types.ValueType.TheVariants.{Void, Integer, Pointer}
 use Rattle.c_tree.specs.Evaluation.{type_of}
@@ -116,6 +116,7 @@ module _ (R : Room) where
   IsWide (Integer Char) = ⊥
   IsWide (Integer Short) = Unit {0}
   IsWide (Integer Int) = Unit {0}
+  IsWide (Integer UnsignedInt) = Unit {0}
   IsWide Void = Unit {0}
   IsWide (Pointer t) = Unit {0}
 
@@ -132,6 +133,11 @@ module _ (R : Room) where
       let v = first_variable R.function.locals k in
       let plain : v + 0 ≡ v = omega arith in
       subst (λ (s : Spot). Wide s.number) (sym (spot-is k l (Integer Int) at e)) (subst (λ (n : ℕ). Wide n) plain
+      (variable-width k 0 l Two at (ap (λ (m : ValueType). slice_get (type_widths m) 0) e)))
+  local-holds k l (Integer UnsignedInt) at e wide =
+      let v = first_variable R.function.locals k in
+      let plain : v + 0 ≡ v = omega arith in
+      subst (λ (s : Spot). Wide s.number) (sym (spot-is k l (Integer UnsignedInt) at e)) (subst (λ (n : ℕ). Wide n) plain
       (variable-width k 0 l Two at (ap (λ (m : ValueType). slice_get (type_widths m) 0) e)))
   local-holds k l (Pointer t) at e wide =
       let v = first_variable R.function.locals k in
@@ -192,6 +198,7 @@ module _ (R : Room) where
       let byte = temp level ForByte room in (((byte, (k, tt)), tt), (((h, (byte, tt)), tt), tt))
   converting-fit level Short to from room h k = (((h, (k, tt)), tt), tt)
   converting-fit level Int to from room h k = copied-fit to from h k
+  converting-fit level UnsignedInt to from room h k = copied-fit to from h k
 
   pub computing-fit : (level : ℕ) (operator : BinaryOp) (to x y : ℕ) → level < levels_in → Wide to → Wide x → Wide y
       → Fit (computing c level operator to x y)
