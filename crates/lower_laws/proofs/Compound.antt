@@ -12,7 +12,7 @@ use Rattle.c_tree.specs.Program.{int}
 use Rattle.flow_graph.specs.declared.op.Op.TheVariants as op
 use Rattle.flow_graph.specs.Graphs.{IsIn}
 use Rattle.lower_lines.specs.Expressions.{and_part, and_test, cast_part, comma_part, negated, or_part}
-use Rattle.lower_lines.specs.Expressions.{or_test, test_blocks_of, unary_part, words_of}
+use Rattle.lower_lines.specs.Expressions.{number_part, or_test, test_blocks_of, unary_part, words_of}
 use Rattle.lower_lines.specs.Lines.{Line, Start, Emit}
 use Rattle.lower_lines.specs.Parts.{Wanted, Dropped, Own, ToLocal, Tests, Part, as_pointer, compound, converting}
 use Rattle.lower_lines.specs.Parts.{in_type, made, narrowed, null_lines, operand, target, truth}
@@ -197,13 +197,14 @@ module _ (c : Context) (D : List ℕ) (low-known : (v : ℕ) → IsIn v D → v 
   UnaryFits Not of = Unit {0}
   UnaryFits _ of = (u : IntegerType) × (of ≡ Integer u)
 
-  pub unary-part : (operator : UnaryOp) (a : Part) → UnaryFits operator a.of → Live a → Live (unary_part c operator a)
-  unary-part Plus a (u, e) h = retyped a int (subst (λ (t : ValueType). Alike t int) (sym e) tt) h
-  unary-part Minus a (u, e) h =
-      number-part c D low-known op.Neg a u e (λ d s. ((refl, refl, refl), refl, refl)) h
-  unary-part Complement a (u, e) h =
-      number-part c D low-known op.Not a u e (λ d s. ((refl, refl, refl), refl, refl)) h
-  unary-part Not a e h = negated-part a h
+  pub unary-part : (of : IntegerType) (operator : UnaryOp) (a : Part) → UnaryFits operator a.of → Live a
+      → Live (unary_part c of operator a)
+  unary-part of Plus a (u, e) h = retyped a (Integer of) (subst (λ (t : ValueType). Alike t (Integer of)) (sym e) tt) h
+  unary-part of Minus a (u, e) h = retyped (number_part c op.Neg a) (Integer of) tt
+      (number-part c D low-known op.Neg a u e (λ d s. ((refl, refl, refl), refl, refl)) h)
+  unary-part of Complement a (u, e) h = retyped (number_part c op.Not a) (Integer of) tt
+      (number-part c D low-known op.Not a u e (λ d s. ((refl, refl, refl), refl, refl)) h)
+  unary-part of Not a e h = retyped (negated c a) (Integer of) tt (negated-part a h)
 
   pub and-part : (a b : Part) → Live a → Live b → Live (and_part c a b)
   and-part a b ha hb = record {

@@ -11,7 +11,6 @@ use Rattle.c_tree.specs.declared.types.IntegerType.TheVariants.{Char, Short, Int
 use Rattle.c_tree.specs.declared.types.ValueType.{ValueType}
 use Rattle.c_tree.specs.declared.types.ValueType.TheVariants.{Void, Integer, Pointer}
 use Rattle.c_tree.specs.Program.{int}
-use Rattle.c_tree.specs.WellTyped.{BinaryGives}
 use Rattle.flow_graph.specs.declared.op.Op.TheVariants as op
 use Rattle.lower_lines.specs.Expressions.{and_part, and_test}
 use Rattle.lower_lines.specs.Expressions.{binary_part}
@@ -26,7 +25,7 @@ use Rattle.lower_lines.specs.Parts.{Wanted, Dropped, Own, ToLocal, Tests, Part, 
 use Rattle.lower_lines.specs.Parts.{converting, in_type, narrowed, operand}
 use Rattle.lower_lines.specs.Variables.{Context}
 use Rattle.lower_laws.specs.FitsLaws.{Room}
-use Rattle.lower_laws.proofs.Pieces.{Fit, May, applied-fit, blocks_in}
+use Rattle.lower_laws.proofs.Pieces.{Fit, LinesGive, May, applied-fit, blocks_in}
 use Rattle.lower_laws.proofs.Pieces.{context_in, converting-fit}
 use Rattle.lower_laws.proofs.Pieces.{fit-then, levels_in}
 use Rattle.lower_laws.proofs.Pieces.{made-number-fit, may-integer, may-pointer, null-fit}
@@ -118,7 +117,7 @@ module _ (R : Room) where
   pointers-alike BitXor holds fails = refl
   pointers-alike BitOr holds fails = refl
 
-  pub binary-part : (of : ValueType) (operator : BinaryOp) (a b : Part) → BinaryGives operator a.of b.of of
+  pub binary-part : (of : ValueType) (operator : BinaryOp) (a b : Part) → LinesGive operator a.of b.of of
       → FitsPart R a → FitsPart R b → FitsPart R (binary_part c of operator a b)
   binary-part of operator a b gives h h' =
       let x = operand c b.simple a in

@@ -35,7 +35,7 @@ use Rattle.lower_laws.proofs.FitsParts.{unary-part}
 use Rattle.lower_laws.proofs.FitsCompound.{Becomes, and-part', assign-becomes, binary-part, cast-becomes}
 use Rattle.lower_laws.proofs.FitsCompound.{cast-part', comma-part', conditional-becomes, conditional-part'}
 use Rattle.lower_laws.proofs.FitsCompound.{or-part'}
-use Rattle.lower_laws.proofs.Pieces.{context_in}
+use Rattle.lower_laws.proofs.Pieces.{context_in, lines-give}
 use Rattle.lower_laws.proofs.FitsPlaces.{PlaceFits, address-part, assign-part, call-part, element-address}
 use Rattle.lower_laws.proofs.FitsPlaces.{exit-part, getchar-part, passed-part, read-part, step-part, target-address}
 use Rattle.lower_laws.proofs.FitsPlaces.{update-part}
@@ -120,7 +120,8 @@ module _ (R : Room) (functions : AllByRecursion (IsTypedFunction R.program) R.pr
         (subst (λ (s : ValueType). UnaryFits R operator s) (sym (type-of e h.0))
         (unary-number R operator (value_type e) of h.1)) (expression-fits e h.0 words)
     expression-fits (Binary of operator a b) h words =
-        binary-part R of operator (part_of c a) (part_of c b) (gives-parts operator a b of h.0 h.1 h.2)
+        binary-part R of operator (part_of c a) (part_of c b)
+        (lines-give operator _ _ of (gives-parts operator a b of h.0 h.1 h.2))
         (expression-fits a h.0 words.0) (expression-fits b h.1 words.1)
     expression-fits (And a b) h words =
         and-part' R (part_of c a) (part_of c b) (expression-fits a h.0 words.0) (expression-fits b h.2 words.1)

@@ -31,6 +31,7 @@ use Rattle.lower_lines.specs.Parts.{Part}
 use Rattle.lower_lines.specs.Shown.{first_variable, local_widths, type_widths}
 use Rattle.lower_lines.specs.Variables.{Context, Spot, local_spot, local_variables, typed_spot}
 use Rattle.lower_lines.proofs.Types.{part-type, place-scalar, some-and}
+use Rattle.lower_laws.proofs.Pieces.{lines-give}
 use Rattle.lower_laws.proofs.Widths.{local-width}
 use Rattle.lower_laws.proofs.FitsCompound.{Becomes, assign-becomes, cast-becomes, conditional-becomes}
 use Rattle.lower_laws.specs.Flows.{Within}
@@ -165,11 +166,12 @@ module _ (p : Program) (f : Function) (functions : AllByRecursion (IsTypedFuncti
     expression-live (Read of place) h = read-part c D low-known of (place_of c place) (place-live place of h)
     expression-live (Address element place) h = address-live element place h.0 h.1
     expression-live (Unary of operator e) h =
-        unary-part c D low-known operator (part_of c e)
+        unary-part c D low-known of operator (part_of c e)
         (subst (λ (s : ValueType). UnaryFits c D low-known operator s) (sym (type-of e h.0))
         (unary-number operator (value_type e) of h.1)) (expression-live e h.0)
     expression-live (Binary of operator a b) h =
-        binary-part c D low-known of operator (part_of c a) (part_of c b) (gives-parts operator a b of h.0 h.1 h.2)
+        binary-part c D low-known of operator (part_of c a) (part_of c b)
+        (lines-give operator _ _ of (gives-parts operator a b of h.0 h.1 h.2))
         (expression-live a h.0) (expression-live b h.1)
     expression-live (And a b) h =
         and-part c D low-known (part_of c a) (part_of c b) (expression-live a h.0) (expression-live b h.2)

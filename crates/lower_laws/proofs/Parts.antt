@@ -11,7 +11,6 @@ use Rattle.c_tree.specs.declared.types.ValueType.{ValueType}
 use Rattle.c_tree.specs.declared.types.ValueType.TheVariants.{Void, Integer, Pointer}
 use Rattle.c_tree.specs.Program.{int}
 use Rattle.c_tree.specs.Store.{converted}
-use Rattle.c_tree.specs.WellTyped.{BinaryGives}
 use Rattle.flow_graph.specs.declared.op.Op.{Op}
 use Rattle.flow_graph.specs.declared.op.Op.TheVariants as op
 use Rattle.flow_graph.specs.Graphs.{IsIn}
@@ -26,6 +25,7 @@ use Rattle.lower_lines.specs.Parts.{operand, standing, target, tested_blocks}
 use Rattle.lower_lines.specs.Variables.{Context, Spot, local_spot, local_variables, moved, own}
 use Rattle.lower_laws.specs.Flows.{Within}
 use Rattle.lower_laws.proofs.Applied.{AllFree, Free, LowTarget, Settled, applied-settled, none-agrees}
+use Rattle.lower_laws.proofs.Pieces.{LinesGive}
 use Rattle.lower_laws.proofs.Sets.{Agrees, F, Goes, IsSimple, agrees-at, agrees-back, agrees-front}
 use Rattle.lower_laws.proofs.Sets.{both-in, delivered-flows, flows-then, front-in, goes-more, last-less, made-flows}
 use Rattle.lower_laws.proofs.Sets.{more-in, moved-flows, one-in, reached, swapped, tested-size, tested_sets}
@@ -349,7 +349,7 @@ module _ (c : Context) (D : List ℕ) (low-known : (v : ℕ) → IsIn v D → v 
         tests = λ holds fails. refl;
       }
 
-  pub binary-part : (of : ValueType) (operator : BinaryOp) (a b : Part) → BinaryGives operator a.of b.of of → LivePart a
+  pub binary-part : (of : ValueType) (operator : BinaryOp) (a b : Part) → LinesGive operator a.of b.of of → LivePart a
       → LivePart b → LivePart (binary_part c of operator a b)
   binary-part of operator a b gives ha hb =
       let x = operand c b.simple a in
