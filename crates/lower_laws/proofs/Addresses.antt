@@ -6,7 +6,7 @@ use Rattle.std.specs.Prelude.{◌&&◌}
 use Rattle.std.specs.List.{AllByRecursion}
 use Rattle.c_tree.specs.declared.expression.BinaryOp.TheVariants.{Add}
 use Rattle.c_tree.specs.declared.types.IntegerType.{IntegerType}
-use Rattle.c_tree.specs.declared.types.IntegerType.TheVariants.{Char, Short, Int}
+use Rattle.c_tree.specs.declared.types.IntegerType.TheVariants.{Char, Short, Int, UnsignedInt}
 use Rattle.c_tree.specs.declared.types.ValueType.{ValueType}
 use Rattle.c_tree.specs.declared.types.ValueType.TheVariants.{Void, Integer, Pointer}
 use Rattle.c_tree.specs.WellTyped.{BinaryGives, IsResult}
@@ -390,6 +390,12 @@ module _ (c : Context) (D : List ℕ) (low-known : (v : ℕ) → IsIn v D → v 
   }
   assigned-local (Integer Int) k h a turns ha = record {
     settles = wide-assigned (Integer Int) k h a turns ha;
+    stands = λ s e. absurd (cc);
+    quiet = λ s e. absurd (cc);
+    tests = λ holds fails. refl;
+  }
+  assigned-local (Integer UnsignedInt) k h a turns ha = record {
+    settles = wide-assigned (Integer UnsignedInt) k h a turns ha;
     stands = λ s e. absurd (cc);
     quiet = λ s e. absurd (cc);
     tests = λ holds fails. refl;

@@ -5,7 +5,7 @@ use Rattle.std.proofs.Common.{length-append}
 use Rattle.c_tree.specs.declared.expression.UnaryOp.{UnaryOp}
 use Rattle.c_tree.specs.declared.expression.UnaryOp.TheVariants.{Plus, Minus, Complement, Not}
 use Rattle.c_tree.specs.declared.types.IntegerType.{IntegerType}
-use Rattle.c_tree.specs.declared.types.IntegerType.TheVariants.{Char, Short, Int}
+use Rattle.c_tree.specs.declared.types.IntegerType.TheVariants.{Char, Short, Int, UnsignedInt}
 use Rattle.c_tree.specs.declared.types.ValueType.{ValueType}
 use Rattle.c_tree.specs.declared.types.ValueType.TheVariants.{Void, Integer, Pointer}
 use Rattle.c_tree.specs.Program.{int}
@@ -369,6 +369,7 @@ module _ (c : Context) (D : List ℕ) (low-known : (v : ℕ) → IsIn v D → v 
   turned-part (Integer Short) a turns h =
       let (u, e) = integer-turned Short a.of turns in narrowed-part Short u a e h
   turned-part (Integer Int) a turns h = h
+  turned-part (Integer UnsignedInt) a turns h = h
   turned-part (Pointer t) a turns h = pointer-part t a.of a h
 
   pub turned-alike : (of : ValueType) (a : Part) → Becomes of a.of → Alike (in_type c of a).of of
@@ -377,6 +378,8 @@ module _ (c : Context) (D : List ℕ) (low-known : (v : ℕ) → IsIn v D → v 
   turned-alike (Integer Short) a turns = tt
   turned-alike (Integer Int) a turns =
       let (u, e) = integer-turned Int a.of turns in subst (λ (t : ValueType). Alike t int) (sym e) tt
+  turned-alike (Integer UnsignedInt) a turns =
+      let (u, e) = integer-turned UnsignedInt a.of turns in subst (λ (t : ValueType). Alike t int) (sym e) tt
   turned-alike (Pointer t) a turns = by a.of refl
     where
       by : (of : ValueType) → a.of ≡ of → Alike (as_pointer c t of a).of (Pointer t)

@@ -7,7 +7,7 @@ use Rattle.c_tree.specs.declared.expression.BinaryOp.TheVariants.{ShiftLeft, Shi
 use Rattle.c_tree.specs.declared.expression.BinaryOp.TheVariants.{GreaterOrEqual, Equal, NotEqual, BitAnd, BitXor}
 use Rattle.c_tree.specs.declared.expression.BinaryOp.TheVariants.{BitOr}
 use Rattle.c_tree.specs.declared.types.IntegerType.{IntegerType}
-use Rattle.c_tree.specs.declared.types.IntegerType.TheVariants.{Char, Short, Int}
+use Rattle.c_tree.specs.declared.types.IntegerType.TheVariants.{Char, Short, Int, UnsignedInt}
 use Rattle.c_tree.specs.declared.types.ValueType.{ValueType}
 use Rattle.c_tree.specs.declared.types.ValueType.TheVariants.{Void, Integer, Pointer}
 use Rattle.c_tree.specs.Program.{int}
@@ -272,6 +272,7 @@ module _ (R : Room) where
   turned-part (Integer Short) a turns h =
       let (u, e) = integer-turned Short a.of turns in narrowed-part Short u a e h
   turned-part (Integer Int) a turns h = h
+  turned-part (Integer UnsignedInt) a turns h = h
   turned-part (Pointer t) a turns h = pointer-part t a.of a h
 
   -- what may be wanted of the type may be wanted of what is in it
@@ -282,6 +283,9 @@ module _ (R : Room) where
   turned-may w (Integer Int) a turns m =
       let (u, e) = integer-turned Int a.of turns in
       subst (λ (t : ValueType). May R w t) (sym e) (may-integer R w Int u m)
+  turned-may w (Integer UnsignedInt) a turns m =
+      let (u, e) = integer-turned UnsignedInt a.of turns in
+      subst (λ (t : ValueType). May R w t) (sym e) (may-integer R w UnsignedInt u m)
   turned-may w (Pointer t) a turns m = by a.of refl
     where
       by : (of : ValueType) → a.of ≡ of → May R w (as_pointer c t of a).of

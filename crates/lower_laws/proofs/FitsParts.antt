@@ -9,7 +9,7 @@ use Rattle.c_tree.specs.declared.expression.ArrayRef.TheVariants as refs
 use Rattle.c_tree.specs.declared.expression.UnaryOp.{UnaryOp}
 use Rattle.c_tree.specs.declared.expression.UnaryOp.TheVariants.{Plus, Minus, Complement, Not}
 use Rattle.c_tree.specs.declared.types.IntegerType.{IntegerType}
-use Rattle.c_tree.specs.declared.types.IntegerType.TheVariants.{Char, Short, Int}
+use Rattle.c_tree.specs.declared.types.IntegerType.TheVariants.{Char, Short, Int, UnsignedInt}
 use Rattle.c_tree.specs.declared.types.ValueType.{ValueType}
 use Rattle.c_tree.specs.declared.types.ValueType.TheVariants.{Void, Integer, Pointer}
 use Rattle.c_tree.specs.Program.{int, Local}
@@ -173,6 +173,14 @@ module _ (R : Room) where
         (omega (arith, room)) m (local-holds R k l (Integer Int) at e tt) more;
     stands = λ s e'. subst (λ (q : Spot). Wide R q.number) (some-same (local_spot c k) s e')
         (local-holds R k l (Integer Int) at e tt);
+    some = omega arith;
+    tests = λ holds fails. refl;
+  }
+  local-part (Integer UnsignedInt) k l at e = record {
+    fits = λ block level w room more m. reading-fit block level w (Integer UnsignedInt) (local_spot c k)
+        (omega (arith, room)) m (local-holds R k l (Integer UnsignedInt) at e tt) more;
+    stands = λ s e'. subst (λ (q : Spot). Wide R q.number) (some-same (local_spot c k) s e')
+        (local-holds R k l (Integer UnsignedInt) at e tt);
     some = omega arith;
     tests = λ holds fails. refl;
   }

@@ -10,7 +10,7 @@ use Rattle.c_tree.specs.declared.expression.StepOp.{StepOp}
 use Rattle.c_tree.specs.declared.expression.StepOp.TheVariants.{PreIncrement, PreDecrement, PostIncrement}
 use Rattle.c_tree.specs.declared.expression.StepOp.TheVariants.{PostDecrement}
 use Rattle.c_tree.specs.declared.types.IntegerType.{IntegerType}
-use Rattle.c_tree.specs.declared.types.IntegerType.TheVariants.{Char, Short, Int}
+use Rattle.c_tree.specs.declared.types.IntegerType.TheVariants.{Char, Short, Int, UnsignedInt}
 use Rattle.c_tree.specs.declared.types.ValueType.{ValueType}
 use Rattle.c_tree.specs.declared.types.ValueType.TheVariants.{Void, Integer, Pointer}
 use Rattle.c_tree.specs.Operators.{step_op}
@@ -276,6 +276,7 @@ module _ (R : Room) where
   local-levels (Integer Char) k = refl
   local-levels (Integer Short) k = refl
   local-levels (Integer Int) k = refl
+  local-levels (Integer UnsignedInt) k = refl
   local-levels (Pointer t) k = refl
 
   local-blocks : (of : ValueType) (k : ℕ) (w : Wanted) → (local_part c of k).blocks w ≤ tested_blocks w of
@@ -283,6 +284,7 @@ module _ (R : Room) where
   local-blocks (Integer Char) k w = omega arith
   local-blocks (Integer Short) k w = omega arith
   local-blocks (Integer Int) k w = omega arith
+  local-blocks (Integer UnsignedInt) k w = omega arith
   local-blocks (Pointer t) k w = omega arith
 
   local-read : (of : ValueType) (k : ℕ) (l : Local) → slice_get R.function.locals k ≡ Some l → l.of ≡ of
@@ -355,6 +357,9 @@ module _ (R : Room) where
       record { fits = lines; stands = λ s e'. absurd (cc); some = v.some; tests = λ holds fails. refl }
   assigned-local (Integer Int) k l at e a becomes h =
       let (v, lines) = wide-local (Integer Int) a k l at e tt becomes h in
+      record { fits = lines; stands = λ s e'. absurd (cc); some = v.some; tests = λ holds fails. refl }
+  assigned-local (Integer UnsignedInt) k l at e a becomes h =
+      let (v, lines) = wide-local (Integer UnsignedInt) a k l at e tt becomes h in
       record { fits = lines; stands = λ s e'. absurd (cc); some = v.some; tests = λ holds fails. refl }
   assigned-local (Pointer t) k l at e a becomes h =
       let (v, lines) = wide-local (Pointer t) a k l at e tt becomes h in

@@ -13,7 +13,7 @@ use Rattle.c_tree.specs.declared.expression.BinaryOp.TheVariants.{Add}
 use Rattle.c_tree.specs.declared.expression.UnaryOp.{UnaryOp}
 use Rattle.c_tree.specs.declared.expression.UnaryOp.TheVariants.{Plus, Minus, Complement, Not}
 use Rattle.c_tree.specs.declared.types.IntegerType.{IntegerType}
-use Rattle.c_tree.specs.declared.types.IntegerType.TheVariants.{Char, Short, Int}
+use Rattle.c_tree.specs.declared.types.IntegerType.TheVariants.{Char, Short, Int, UnsignedInt}
 use Rattle.c_tree.specs.declared.types.ValueType.{ValueType}
 use Rattle.c_tree.specs.declared.types.ValueType.TheVariants.{Void, Integer, Pointer}
 use Rattle.c_tree.specs.Program.{value_type, Expression, Constant, Start as StartOf, Read, Address, Unary, Binary, And}
@@ -55,6 +55,7 @@ pub converted-fits : (t : IntegerType) (n : ℤ) → FitsSigned w32 n → FitsSi
 converted-fits Char n h = byte-fits (int_wrap w8 n) (SFits-int_wrap w8 n)
 converted-fits Short n h = short-fits (int_wrap w16 n) (SFits-int_wrap w16 n)
 converted-fits Int n h = h
+converted-fits UnsignedInt n h = h
 
 -- ---- types
 

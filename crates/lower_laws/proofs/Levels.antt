@@ -8,7 +8,7 @@ use Rattle.c_tree.specs.declared.expression.StepOp.TheVariants.{PostDecrement}
 use Rattle.c_tree.specs.declared.expression.UnaryOp.{UnaryOp}
 use Rattle.c_tree.specs.declared.expression.UnaryOp.TheVariants.{Plus, Minus, Complement, Not}
 use Rattle.c_tree.specs.declared.types.IntegerType.{IntegerType}
-use Rattle.c_tree.specs.declared.types.IntegerType.TheVariants.{Char, Short, Int}
+use Rattle.c_tree.specs.declared.types.IntegerType.TheVariants.{Char, Short, Int, UnsignedInt}
 use Rattle.c_tree.specs.declared.types.ValueType.{ValueType}
 use Rattle.c_tree.specs.declared.types.ValueType.TheVariants.{Void, Integer, Pointer}
 use Rattle.c_tree.specs.Operators.{step_op}
@@ -61,6 +61,7 @@ in_type-one c Void a h = h
 in_type-one c (Integer Char) a h = h
 in_type-one c (Integer Short) a h = h
 in_type-one c (Integer Int) a h = h
+in_type-one c (Integer UnsignedInt) a h = h
 in_type-one c (Pointer t) a h = pointer-one c t a.of a h
 
 local-one : (c : Context) (of : ValueType) (k : ℕ) → 1 ≤ (local_part c of k).levels
@@ -68,6 +69,7 @@ local-one c Void k = omega arith
 local-one c (Integer Char) k = omega arith
 local-one c (Integer Short) k = omega arith
 local-one c (Integer Int) k = omega arith
+local-one c (Integer UnsignedInt) k = omega arith
 local-one c (Pointer t) k = omega arith
 
 read-one : (c : Context) (of : ValueType) (l : Located) → LevelsOf l → 1 ≤ (read_part c of l).levels
@@ -96,6 +98,7 @@ assigned-one c Void k a h = h
 assigned-one c (Integer Char) k a h = h
 assigned-one c (Integer Short) k a h = h
 assigned-one c (Integer Int) k a h = h
+assigned-one c (Integer UnsignedInt) k a h = h
 assigned-one c (Pointer t) k a h = pointer-one c t a.of a h
 
 assign-one : (c : Context) (of : ValueType) (l : Located) (a : Part) → LevelsOf l → 1 ≤ a.levels

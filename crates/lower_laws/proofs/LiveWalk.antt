@@ -13,7 +13,7 @@ use Rattle.c_tree.specs.declared.expression.BinaryOp.TheVariants.{Add}
 use Rattle.c_tree.specs.declared.expression.UnaryOp.{UnaryOp}
 use Rattle.c_tree.specs.declared.expression.UnaryOp.TheVariants.{Plus, Minus, Complement, Not}
 use Rattle.c_tree.specs.declared.types.IntegerType.{IntegerType}
-use Rattle.c_tree.specs.declared.types.IntegerType.TheVariants.{Char, Short, Int}
+use Rattle.c_tree.specs.declared.types.IntegerType.TheVariants.{Char, Short, Int, UnsignedInt}
 use Rattle.c_tree.specs.declared.types.ValueType.{ValueType}
 use Rattle.c_tree.specs.declared.types.ValueType.TheVariants.{Void, Integer, Pointer}
 use Rattle.c_tree.specs.Evaluation.{type_of}
@@ -101,6 +101,8 @@ module _ (p : Program) (f : Function) (functions : AllByRecursion (IsTypedFuncti
   words-known (Integer Short) k l at e = one-known (first_variable f.locals k)
       (first-known k l Two at (ap (λ (m : ValueType). slice_get (type_widths m) 0) e))
   words-known (Integer Int) k l at e = one-known (first_variable f.locals k)
+      (first-known k l Two at (ap (λ (m : ValueType). slice_get (type_widths m) 0) e))
+  words-known (Integer UnsignedInt) k l at e = one-known (first_variable f.locals k)
       (first-known k l Two at (ap (λ (m : ValueType). slice_get (type_widths m) 0) e))
   words-known (Pointer t) k l at e = both
     where

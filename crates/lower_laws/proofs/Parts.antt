@@ -6,7 +6,7 @@ use Rattle.c_tree.specs.declared.expression.ArrayRef.{ArrayRef}
 use Rattle.c_tree.specs.declared.expression.ArrayRef.TheVariants as refs
 use Rattle.c_tree.specs.declared.expression.BinaryOp.{BinaryOp}
 use Rattle.c_tree.specs.declared.types.IntegerType.{IntegerType}
-use Rattle.c_tree.specs.declared.types.IntegerType.TheVariants.{Char, Short, Int}
+use Rattle.c_tree.specs.declared.types.IntegerType.TheVariants.{Char, Short, Int, UnsignedInt}
 use Rattle.c_tree.specs.declared.types.ValueType.{ValueType}
 use Rattle.c_tree.specs.declared.types.ValueType.TheVariants.{Void, Integer, Pointer}
 use Rattle.c_tree.specs.Program.{int}
@@ -311,6 +311,7 @@ module _ (c : Context) (D : List ℕ) (low-known : (v : ℕ) → IsIn v D → v 
   local-part Void k h = wide-local Void k h
   local-part (Integer Short) k h = wide-local (Integer Short) k h
   local-part (Integer Int) k h = wide-local (Integer Int) k h
+  local-part (Integer UnsignedInt) k h = wide-local (Integer UnsignedInt) k h
   local-part (Pointer t) k h = wide-local (Pointer t) k h
 
   -- ---- operators
