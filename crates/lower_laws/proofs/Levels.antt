@@ -86,11 +86,12 @@ address-one c t (AtLocal k) h = local-one c (Pointer t) k
 address-one c t (AtObject k) h = omega arith
 address-one c t (AtAddress u a) h = h.1
 
-unary-one : (c : Context) (op : UnaryOp) (a : Part) → 1 ≤ a.levels → 1 ≤ (unary_part c op a).levels
-unary-one c Plus a h = h
-unary-one c Minus a h = h
-unary-one c Complement a h = h
-unary-one c Not a h = h
+unary-one : (c : Context) (of : IntegerType) (op : UnaryOp) (a : Part) → 1 ≤ a.levels
+    → 1 ≤ (unary_part c of op a).levels
+unary-one c of Plus a h = h
+unary-one c of Minus a h = h
+unary-one c of Complement a h = h
+unary-one c of Not a h = h
 
 assigned-one : (c : Context) (of : ValueType) (k : ℕ) (a : Part) → 1 ≤ a.levels
     → 1 ≤ (assign_part c of (AtLocal k) a).levels
@@ -145,7 +146,7 @@ mutual
   levels-one c (StartOf t array) = omega arith
   levels-one c (Read of place) = read-one c of (place_of c place) (located-one c place)
   levels-one c (Address t place) = address-one c t (place_of c place) (located-one c place)
-  levels-one c (Unary of op e) = unary-one c op (part_of c e) (levels-one c e)
+  levels-one c (Unary of op e) = unary-one c of op (part_of c e) (levels-one c e)
   levels-one c (Binary of op a b) = max-behind (part_of c a).levels (part_of c b).levels
   levels-one c (And a b) = max-first (part_of c a).levels (part_of c b).levels (levels-one c a)
   levels-one c (Or a b) = max-first (part_of c a).levels (part_of c b).levels (levels-one c a)
