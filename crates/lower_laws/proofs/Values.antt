@@ -86,11 +86,11 @@ either-computed K true c d h h' = h
 either-computed K false c d h h' = h'
 
 -- with signs or without
-divided-kind : (of : IntegerType) (signed fails fails' : Bool) (trap trap' : Trap) (n n' : ℤ)
+divided-kind : (of : IntegerType) (signed first second : Bool) (trap trap' : Trap) (n n' : ℤ)
     → Computing (HasKind (Integer of))
-    (if signed then (if fails then Traps trap else number n) else (if fails' then Traps trap' else number n'))
-divided-kind of true fails fails' trap trap' n n' = either-computed (HasKind (Integer of)) fails _ _ tt tt
-divided-kind of false fails fails' trap trap' n n' = either-computed (HasKind (Integer of)) fails' _ _ tt tt
+    (if signed then (if first then Traps trap else number n) else (if second then Traps trap' else number n'))
+divided-kind of true first second trap trap' n n' = either-computed (HasKind (Integer of)) first _ _ tt tt
+divided-kind of false first second trap trap' n n' = either-computed (HasKind (Integer of)) second _ _ tt tt
 
 numbers-kind : (of within : IntegerType) (op : BinaryOp) (a b : ℤ)
     → Computing (HasKind (Integer of)) (numbers_value within op a b)

@@ -1,7 +1,8 @@
 -- What the lines of an operator do, whose operands are two numbers in variables.
-use Rattle.std.proofs.Common.{◌≡◌, ◌≢◌, ℕ, zero, suc, ◌+◌, ◌*◌, ◌<◌, ◌≤◌, ◌^◌, Bool, true, false, not, ℤ, pos, List}
-use Rattle.std.proofs.Common.{[], ◌∷◌, ◌++◌, Option, Some, None, refl, sym, ap, ◌∙◌, subst, arith, inl, inr}
+use Rattle.std.proofs.Common.{◌≡◌, ◌≢◌, ℕ, suc, ◌+◌, ◌*◌, ◌<◌, ◌≤◌, ◌^◌, Bool, true, false, not, ℤ, pos, List}
+use Rattle.std.proofs.Common.{◌⊎◌, [], ◌∷◌, ◌++◌, Option, Some, None, refl, sym, ap, ◌∙◌, subst, arith, inl, inr}
 use Rattle.std.specs.Prelude.{◌*ℤ◌, ◌+ℤ◌, ◌-ℤ◌, int_div, int_lt, int_rem, nat_le, nat_lt, if◌then◌else◌}
+use Rattle.std.proofs.lemmas.Bool.Decides.{leb_tells}
 use Rattle.std.proofs.lemmas.Option.{same_Some}
 use Rattle.std.specs.Int.{w8, w32, int_wrap, int_bit_and, int_bit_or, int_bit_xor}
 use Rattle.pcc_base.specs.Outcome.{Trapped, Value, Number}
@@ -90,9 +91,14 @@ answer-of-order true signed unsigned m n = refl
 answer-of-order false signed unsigned m n = refl
 
 least-turned : (i j : ℕ) → nat_le i j ≡ not (nat_lt j i)
-least-turned zero j = refl
-least-turned (suc i) zero = refl
-least-turned (suc i) (suc j) = least-turned i j
+least-turned i j = by (nat_le i j) (nat_lt j i) (leb_tells i j) (leb_tells (suc j) i)
+  where
+    by : (b c : Bool) → ((b ≡ true) × (i ≤ j)) ⊎ ((b ≡ false) × (j < i))
+        → ((c ≡ true) × (suc j ≤ i)) ⊎ ((c ≡ false) × (i < suc j)) → b ≡ not c
+    by b c (inl (e, within)) (inr (f, below)) = e ∙ sym (ap not f)
+    by b c (inr (e, below)) (inl (f, above)) = e ∙ sym (ap not f)
+    by b c (inl (e, within)) (inl (f, above)) = absurd (omega (arith, within, above))
+    by b c (inr (e, below)) (inr (f, within)) = absurd (omega (arith, below, within))
 
 either-turned : (b u v w : Bool) → w ≡ not v → (if b then not u else w) ≡ not (if b then u else v)
 either-turned true u v w e = refl
