@@ -8,7 +8,7 @@ use Rattle.std.proofs.lemmas.List.Elements.{recursion_from_All}
 use Rattle.pcc_base.specs.Outcome.{ArrayName, Outcome, Value, Number}
 use Rattle.pcc_base.proofs.Lists.{get-seam}
 use Rattle.c_tree.specs.declared.types.IntegerType.{IntegerType}
-use Rattle.c_tree.specs.declared.types.IntegerType.TheVariants.{Char, Short, Int}
+use Rattle.c_tree.specs.declared.types.IntegerType.TheVariants.{Char, Short, Int, UnsignedInt}
 use Rattle.c_tree.specs.declared.types.ValueType.{ValueType}
 use Rattle.c_tree.specs.declared.types.ValueType.TheVariants.{Void, Integer, Pointer}
 use Rattle.c_tree.specs.Evaluation.{type_of}
@@ -226,6 +226,8 @@ module _ (S : Site) (site : IsSite S) (older : List Function) where
     one-taken (Integer Short) (HoldsNumber n) others more w of scalar is stands e =
         short-taken n of stands (first-word others (Number n) more w e)
     one-taken (Integer Int) (HoldsNumber n) others more w of scalar is stands e =
+        int-taken n of stands (first-word others (Number n) more w e)
+    one-taken (Integer UnsignedInt) (HoldsNumber n) others more w of scalar is stands e =
         int-taken n of stands (first-word others (Number n) more w e)
     one-taken (Pointer t) (HoldsPointer array index) others more w of scalar is stands e =
         pointer-taken t array index of is stands (first-word others (array_value array) (Number index ∷ more) w e)
