@@ -8,7 +8,7 @@ ghost use Rattle.c_tree.specs.Erased.{expression_of};
 
 use crate::operators::operator_on;
 use c_eval_state::{Evaluation, Place as Found, Store, Task, Value};
-use c_operators::{binary_number, convert, Operator};
+use c_operators::{Operator, binary_number, convert};
 use c_tree::{Expression, Place};
 use pcc_base::NoMemory;
 

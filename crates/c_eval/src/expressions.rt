@@ -10,7 +10,7 @@ ghost use Rattle.c_tree.specs.Store.{State, Gives};
 
 use crate::operators::begin_binary;
 use c_eval_state::{Evaluation, Place as Found, Store, Task, Value};
-use c_operators::{working_type, Operator};
+use c_operators::{Operator, working_type};
 use c_tree::{BinaryOp, Expression, IntegerType, Place, ValueType};
 use pcc_base::NoMemory;
 

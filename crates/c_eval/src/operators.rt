@@ -13,11 +13,11 @@ ghost use Rattle.c_tree.specs.Store.{State};
 ghost use Rattle.pcc_base.specs.Outcome.{Listing};
 
 use c_eval_state::{EvalEnd, Evaluation, Store, Task};
-use c_operators::{working_type, Operator};
+use c_operators::{Operator, working_type};
 use c_tree::{BinaryOp, Expression, ValueType};
 use pcc_base::{NoMemory, Trap};
 
-/// An operator on two expressions, with the type that it works in, of which their own tell at once.
+/// An operator on two expressions, with the type that it works in.
 #[inline(always)]
 pub(crate) fn operator_on(op: BinaryOp, first: &Expression, second: &Expression) -> Operator
     ensures op { result.op ≡ op }
@@ -38,9 +38,9 @@ pub(crate) fn begin_binary<'a>(
     second: &'a Expression,
 ) -> Result<(), NoMemory>
     ensures { IfOk result (λ _. left_of left.new
-        ≡ doing_three (Evaluates (expression_of first.now)) (Evaluates (expression_of second.now)) (AppliesBinary
-        (working_type op (value_type (expression_of first.now)) (value_type (expression_of second.now))) op)
-        (left_of left.old)) }
+        ≡ doing_three (Evaluates (expression_of first.now)) (Evaluates (expression_of second.now))
+        (AppliesBinary (working_type op (value_type (expression_of first.now)) (value_type (expression_of second.now)))
+        op) (left_of left.old)) }
 {
     left.next_three(
         Task::Evaluates(first),
@@ -58,8 +58,9 @@ pub fn update(
 ) -> Result<(), EvalEnd>
     requires { (left_of left.old).way ≡ Ahead }
     ensures { (p : Program) (l : Listing) (s : State)
-        → Comes result (done p l (tasks.Updates of operator.within operator.op) (left_of left.old) (over s store.old)) (left_of left.new)
-        (over s store.new) }
+        → Comes result
+        (done p l (tasks.Updates of operator.within operator.op) (left_of left.old) (over s store.old))
+        (left_of left.new) (over s store.new) }
 {
     let value = left.take_value();
     let old = left.take_value();

@@ -13,7 +13,7 @@ ghost use Rattle.c_tree.specs.Store.{State, Gives};
 ghost use Rattle.pcc_base.specs.Outcome.{Listing};
 
 use c_eval_state::{EvalEnd, Evaluation, Store, Value};
-use c_operators::{working_type, Operator};
+use c_operators::{Operator, working_type};
 use c_tree::{BinaryOp, IntegerType, StepOp, ValueType};
 use pcc_base::Trap;
 

@@ -52,8 +52,13 @@ returns-in-Some-number t c =
     c.number-in-Some.ensures) in
     let within : IntegerType = working_type op (value_type x) (value_type y) in
     let applied : IsApplied within op m n c.applied.result =
-    rw (to_z-of_z w32 c.in-Some.first (search rules), to_z-of_z w32 c.in-Some-number.second (search rules),
-    c.operator_on.ensures.op, c.operator_on.ensures.within, c.deref-in-Some-number.ensures,
-    c.deref-in-Some-number-2.ensures) at c.applied.ensures in
+    rw (
+      to_z-of_z w32 c.in-Some.first (search rules),
+      to_z-of_z w32 c.in-Some-number.second (search rules),
+      c.operator_on.ensures.op,
+      c.operator_on.ensures.within,
+      c.deref-in-Some-number.ensures,
+      c.deref-in-Some-number-2.ensures,
+    ) at c.applied.ensures in
     subst (λ (e : typed.Expression). IsNumber e kept c.applied.result) (sym same)
     (number_binary kept c.in-Binary.field-0 op x y m n c.applied.result first second applied)
