@@ -31,7 +31,8 @@ use Rattle.c_typing.specs.Library as library
 use Rattle.c_typing.specs.Types.{InCast, Specified, specified, pointed}
 use Rattle.c_typing.specs.Checked.{Checked, Note, Fits, Fails, fits, noted, also, if_fits, pair, both, or_fails}
 use Rattle.c_typing.specs.Names.{Meaning, Local, LocalArray, Object, ObjectArray, Function, Scope, meaning_of}
-use Rattle.c_typing.specs.Rows.{misfit, row_at, of_numbers, of_shift, of_sum, of_difference, of_order, of_equality, of_choice}
+use Rattle.c_typing.specs.Rows.{misfit, row_at, of_numbers, of_shift, of_sum, of_difference, of_order, of_equality}
+use Rattle.c_typing.specs.Rows.{of_choice}
 use Rattle.c_typing.specs.Rows.{is_scalar, can_assign, on_number, dereferenced, address_of_place, place_named}
 use Rattle.c_typing.specs.Rows.{address_row}
 use Rattle.c_typing.specs.Rows.{unary_row, step_row, can_cast, cast_row, types_of, operated, compared, of_conditions}

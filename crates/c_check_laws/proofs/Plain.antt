@@ -43,7 +43,8 @@ use Rattle.c_typing.specs.Rows.{misfit, row_at, is_scalar, can_assign, assigned,
 use Rattle.c_typing.specs.Rows.{dereferenced}
 use Rattle.c_typing.specs.Rows.{address_of_place, place_named, address_row, unary_row, step_row, can_cast, cast_row}
 use Rattle.c_typing.specs.Rows.{types_of}
-use Rattle.c_typing.specs.Rows.{of_numbers, of_shift, of_sum, of_difference, of_order, of_equality, of_conditions, of_choice}
+use Rattle.c_typing.specs.Rows.{of_numbers, of_shift, of_sum, of_difference, of_order, of_equality, of_conditions}
+use Rattle.c_typing.specs.Rows.{of_choice}
 use Rattle.c_typing.specs.Rows.{binary_row, element_of, index_row, conditional_row, updated, to_place_row}
 use Rattle.c_typing.specs.Rows.{assignment_row}
 use Rattle.c_typing.specs.Expressions.{specifiers_at, first_word, type_name, typed_expression}

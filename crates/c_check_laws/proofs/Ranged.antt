@@ -40,7 +40,8 @@ use Rattle.c_typing.specs.Library as library
 use Rattle.c_typing.specs.Checked.{Contents, Elsewhere, Zeros, Values, fits, if_fits, pair}
 use Rattle.c_typing.specs.Checked.{or_fails}
 use Rattle.c_typing.specs.Names.{Meaning, Local, LocalArray, Object, ObjectArray, Function, Scope, meaning_of}
-use Rattle.c_typing.specs.Rows.{misfit, row_at, of_numbers, of_shift, of_sum, of_difference, of_order, of_equality, of_conditions}
+use Rattle.c_typing.specs.Rows.{misfit, row_at, of_numbers, of_shift, of_sum, of_difference, of_order, of_equality}
+use Rattle.c_typing.specs.Rows.{of_conditions}
 use Rattle.c_typing.specs.Rows.{of_choice, is_scalar, can_assign, on_number, dereferenced, address_of_place}
 use Rattle.c_typing.specs.Rows.{place_named}
 use Rattle.c_typing.specs.Rows.{address_row, unary_row, step_row, can_cast, cast_row, types_of, binary_row, element_of}

@@ -19,7 +19,8 @@ use Rattle.c_tree.specs.declared.types.IntegerType.{IntegerType}
 use Rattle.c_tree.specs.declared.types.IntegerType.TheVariants.{Char, Short, Int, UnsignedInt}
 use Rattle.c_tree.specs.declared.types.ValueType.{ValueType}
 use Rattle.c_tree.specs.declared.types.ValueType.TheVariants.{Void, Integer, Pointer}
-use Rattle.c_tree.specs.Program.{value_type, Expression, Constant, Start, Read, Address, Unary, Binary, And, Or, Conditional, Cast}
+use Rattle.c_tree.specs.Program.{value_type, Expression, Constant, Start, Read, Address, Unary, Binary, And, Or}
+use Rattle.c_tree.specs.Program.{Conditional, Cast}
 use Rattle.c_tree.specs.Program.{Assign, Update, Step, Comma, Call, Putchar, Getchar, Exit}
 use Rattle.c_tree.specs.Store.{Held, HoldsNumber, HoldsPointer, converted, in_type, State, Evaluated, Gives, Ends}
 use Rattle.c_tree.specs.Store.{and_then}
@@ -193,12 +194,14 @@ gets_bits false n h = bits_int n h
 quotient_within : (a b : ℤ) (signed : Bool) → IsInt a
     → Gets (if signed then signed_quotient a b else quotient_from_0 a b)
 quotient_within a b true h = quotient_by a b (no_quotient a b) refl h
-quotient_within a b false h = gets_bits (no_unsigned_quotient a b) (unsigned a / unsigned b) (quotient_bits a (unsigned b) h)
+quotient_within a b false h =
+    gets_bits (no_unsigned_quotient a b) (unsigned a / unsigned b) (quotient_bits a (unsigned b) h)
 
 remainder_within : (a b : ℤ) (signed : Bool) → IsInt a → IsInt b
     → Gets (if signed then signed_remainder a b else remainder_from_0 a b)
 remainder_within a b true h k = remainder_by a b (no_quotient a b) refl k
-remainder_within a b false h k = gets_bits (no_unsigned_quotient a b) (unsigned a % unsigned b) (remainder_bits a (unsigned b) h)
+remainder_within a b false h k =
+    gets_bits (no_unsigned_quotient a b) (unsigned a % unsigned b) (remainder_bits a (unsigned b) h)
 
 shift_within : (a : ℤ) (k : ℕ) (signed : Bool) → IsInt a
     → IsInt (if signed then shifted_right a k else shifted_unsigned a k)

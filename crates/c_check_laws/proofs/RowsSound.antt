@@ -423,16 +423,22 @@ module _ (w : Setting) (f : tree.Function) where
 
   pub binary_sound : (X : Type 0) (op : raw.BinaryOp) (at : Span) (a b : Expression) → (X → Good a) → (X → Good b)
       → Sound w X Good (binary_row op at a b)
-  binary_sound X raw_binary.Multiply = operated_sound X of_numbers ops.Multiply (numbers_give ops.Multiply (λ t u. refl))
+  binary_sound X raw_binary.Multiply =
+      operated_sound X of_numbers ops.Multiply (numbers_give ops.Multiply (λ t u. refl))
   binary_sound X raw_binary.Divide = operated_sound X of_numbers ops.Divide (numbers_give ops.Divide (λ t u. refl))
-  binary_sound X raw_binary.Remainder = operated_sound X of_numbers ops.Remainder (numbers_give ops.Remainder (λ t u. refl))
+  binary_sound X raw_binary.Remainder =
+      operated_sound X of_numbers ops.Remainder (numbers_give ops.Remainder (λ t u. refl))
   binary_sound X raw_binary.Add = operated_sound X of_sum ops.Add sum_gives
   binary_sound X raw_binary.Subtract = operated_sound X of_difference ops.Subtract difference_gives
-  binary_sound X raw_binary.ShiftLeft = operated_sound X of_shift ops.ShiftLeft (shift_gives ops.ShiftLeft (λ t u. refl))
-  binary_sound X raw_binary.ShiftRight = operated_sound X of_shift ops.ShiftRight (shift_gives ops.ShiftRight (λ t u. refl))
+  binary_sound X raw_binary.ShiftLeft =
+      operated_sound X of_shift ops.ShiftLeft (shift_gives ops.ShiftLeft (λ t u. refl))
+  binary_sound X raw_binary.ShiftRight =
+      operated_sound X of_shift ops.ShiftRight (shift_gives ops.ShiftRight (λ t u. refl))
   binary_sound X raw_binary.Less = operated_sound X of_order ops.Less (order_gives ops.Less tt (λ within. refl))
-  binary_sound X raw_binary.Greater = operated_sound X of_order ops.Greater (order_gives ops.Greater tt (λ within. refl))
-  binary_sound X raw_binary.LessEqual = operated_sound X of_order ops.LessOrEqual (order_gives ops.LessOrEqual tt (λ within. refl))
+  binary_sound X raw_binary.Greater =
+      operated_sound X of_order ops.Greater (order_gives ops.Greater tt (λ within. refl))
+  binary_sound X raw_binary.LessEqual =
+      operated_sound X of_order ops.LessOrEqual (order_gives ops.LessOrEqual tt (λ within. refl))
   binary_sound X raw_binary.GreaterEqual =
       operated_sound X of_order ops.GreaterOrEqual (order_gives ops.GreaterOrEqual tt (λ within. refl))
   binary_sound X raw_binary.Equal = compared_sound X ops.Equal tt (λ within. refl) ((λ t. refl), (λ t. refl))
