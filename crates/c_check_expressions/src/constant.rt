@@ -7,7 +7,7 @@ ghost use Rattle.c_tree.specs.declared.types.ValueType.{ValueType};
 ghost use Rattle.c_tree.specs.declared.types.ValueType.TheVariants.{Integer};
 ghost use Rattle.c_typing.specs.Constants.{constant_value, has_constant_form, is_null};
 
-use c_operators::{binary_number, convert, is_true, unary_number, Operator};
+use c_operators::{Operator, binary_number, convert, is_true, unary_number};
 use c_tree::{IntegerType, UnaryOp};
 use pcc_base::Trap;
 

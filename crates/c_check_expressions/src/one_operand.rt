@@ -64,12 +64,7 @@ pub fn negated(alloc: Global, at: Span, operand: Operand) -> Result<Judged<Opera
 {
     let of = operand.tree.value_type();
     if is_scalar(of) {
-        return Ok(Judged::Fits(unary_of(
-            alloc,
-            IntegerType::Int,
-            UnaryOp::Not,
-            operand,
-        )?));
+        return Ok(Judged::Fits(unary_of(alloc, IntegerType::Int, UnaryOp::Not, operand)?));
     }
     drop(operand);
     Ok(Judged::Fails(misfit_one(at, of)))

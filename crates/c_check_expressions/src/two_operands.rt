@@ -14,7 +14,7 @@ use crate::judged::{Judged, Operand, misfits};
 use crate::result_types::{
     of_conditions, of_difference, of_equality, of_numbers, of_order, of_shift, of_sum,
 };
-use c_operators::{working_type, Operator};
+use c_operators::{Operator, working_type};
 use c_syntax::BinaryOp as RawOp;
 use c_tree::{BinaryOp, Expression, ValueType};
 use pcc_base::{NoMemory, Span};
@@ -36,7 +36,9 @@ fn binary_of(
         IsOperandOf (Binary of op (boxed_of left.tree) (boxed_of right.tree)) o) }
 {
     let within = working_type(op, left.tree.value_type(), right.tree.value_type());
-    let constant = left.constant.binary(Operator { op, within }, right.constant);
+    let constant = left
+        .constant
+        .binary(Operator { op, within }, right.constant);
     let tree = Expression::binary(alloc, of, op, left.tree, right.tree)?;
     Ok(Operand { tree, constant })
 }
