@@ -41,8 +41,9 @@ use Rattle.c_typing.specs.Constants.{constant_value, is_null}
 use Rattle.c_typing.specs.Names.{Scope, Signature, Meaning, Local, LocalArray, Object, ObjectArray}
 use Rattle.c_typing.specs.Names as names
 use Rattle.c_typing.specs.Names.{meaning_of, object_number}
-use Rattle.c_typing.specs.Rows.{misfit, row_at, of_numbers, of_sum, of_difference, of_order, of_equality, of_choice}
-use Rattle.c_typing.specs.Rows.{is_scalar, can_assign, assigned, tested, selected, on_number, dereferenced}
+use Rattle.c_typing.specs.Rows.{misfit, row_at, of_numbers, of_shift, of_sum, of_difference, of_order, of_equality}
+use Rattle.c_typing.specs.Rows.{of_choice, is_scalar, can_assign, assigned, tested, selected, on_number}
+use Rattle.c_typing.specs.Rows.{dereferenced}
 use Rattle.c_typing.specs.Rows.{address_of_place, place_named, address_row, unary_row, step_row, can_cast, cast_row}
 use Rattle.c_typing.specs.Rows.{types_of, operated, compared, of_conditions, joined, binary_row, element_of, index_row}
 use Rattle.c_typing.specs.Rows.{conditional_row, assign_row, updated, update_row, to_place_row, assignment_row}
@@ -181,8 +182,8 @@ binary_quiet raw_binary.Divide at a b = operated_quiet of_numbers ops.Divide at 
 binary_quiet raw_binary.Remainder at a b = operated_quiet of_numbers ops.Remainder at a b
 binary_quiet raw_binary.Add at a b = operated_quiet of_sum ops.Add at a b
 binary_quiet raw_binary.Subtract at a b = operated_quiet of_difference ops.Subtract at a b
-binary_quiet raw_binary.ShiftLeft at a b = operated_quiet of_numbers ops.ShiftLeft at a b
-binary_quiet raw_binary.ShiftRight at a b = operated_quiet of_numbers ops.ShiftRight at a b
+binary_quiet raw_binary.ShiftLeft at a b = operated_quiet of_shift ops.ShiftLeft at a b
+binary_quiet raw_binary.ShiftRight at a b = operated_quiet of_shift ops.ShiftRight at a b
 binary_quiet raw_binary.Less at a b = operated_quiet of_order ops.Less at a b
 binary_quiet raw_binary.Greater at a b = operated_quiet of_order ops.Greater at a b
 binary_quiet raw_binary.LessEqual at a b = operated_quiet of_order ops.LessOrEqual at a b
@@ -234,8 +235,8 @@ to_place_quiet raw_assign.Divide at of p e = update_quiet of_numbers ops.Divide 
 to_place_quiet raw_assign.Remainder at of p e = update_quiet of_numbers ops.Remainder at of p e
 to_place_quiet raw_assign.Add at of p e = update_quiet of_sum ops.Add at of p e
 to_place_quiet raw_assign.Subtract at of p e = update_quiet of_difference ops.Subtract at of p e
-to_place_quiet raw_assign.ShiftLeft at of p e = update_quiet of_numbers ops.ShiftLeft at of p e
-to_place_quiet raw_assign.ShiftRight at of p e = update_quiet of_numbers ops.ShiftRight at of p e
+to_place_quiet raw_assign.ShiftLeft at of p e = update_quiet of_shift ops.ShiftLeft at of p e
+to_place_quiet raw_assign.ShiftRight at of p e = update_quiet of_shift ops.ShiftRight at of p e
 to_place_quiet raw_assign.BitAnd at of p e = update_quiet of_numbers ops.BitAnd at of p e
 to_place_quiet raw_assign.BitXor at of p e = update_quiet of_numbers ops.BitXor at of p e
 to_place_quiet raw_assign.BitOr at of p e = update_quiet of_numbers ops.BitOr at of p e

@@ -107,7 +107,7 @@ fn bytes_of(element: IntegerType) -> u64
     match element {
         IntegerType::Char => 1,
         IntegerType::Short => 2,
-        IntegerType::Int => 4,
+        IntegerType::Int | IntegerType::UnsignedInt => 4,
     }
 }
 

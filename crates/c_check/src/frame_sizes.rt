@@ -15,7 +15,7 @@ fn array_bytes(array: &LocalArray) -> u64
     let size: u64 = match array.element {
         IntegerType::Char => 1,
         IntegerType::Short => 2,
-        IntegerType::Int => 4,
+        IntegerType::Int | IntegerType::UnsignedInt => 4,
     };
     4 + (u64::from(array.count) * size + 3) / 4 * 4
 }

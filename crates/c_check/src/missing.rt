@@ -79,7 +79,7 @@ fn is_int(of: ValueType) -> bool
 {
     match of {
         ValueType::Integer(IntegerType::Int) => true,
-        ValueType::Integer(IntegerType::Char | IntegerType::Short)
+        ValueType::Integer(IntegerType::Char | IntegerType::Short | IntegerType::UnsignedInt)
         | ValueType::Void
         | ValueType::Pointer(_) => false,
     }

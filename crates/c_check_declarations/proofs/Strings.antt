@@ -6,7 +6,7 @@ use Rattle.c_syntax.specs.declared.expression.TextPiece.{TextPiece}
 use Rattle.c_syntax.specs.declared.expression.Expression.{Expression}
 use Rattle.c_syntax.specs.Expressions.{Expr, Exprs, expr_of, exprs_of}
 use Rattle.c_syntax.specs.Declarations.{InitialiserTree, Single, Braces, ValueTree}
-use Rattle.c_tree.specs.declared.types.IntegerType.TheVariants.{Char, Short, Int}
+use Rattle.c_tree.specs.declared.types.IntegerType.TheVariants.{Char, Short, Int, UnsignedInt}
 use Rattle.c_tree.specs.declared.types.ValueType.{ValueType}
 use Rattle.c_tree.specs.declared.types.ValueType.TheVariants.{Void, Integer, Pointer}
 use Rattle.c_typing.specs.Declarators.{ArrayValues, Letters, Listed, NoValues, letters_or, only_text, text_of}
@@ -36,6 +36,7 @@ no_letters (Some Void) e h = refl
 no_letters (Some (Integer Char)) e h = other_single (text_of e) e h
 no_letters (Some (Integer Short)) e h = refl
 no_letters (Some (Integer Int)) e h = refl
+no_letters (Some (Integer UnsignedInt)) e h = refl
 no_letters (Some (Pointer t)) e h = refl
 
 pub no_letters_listed : (of : Option ValueType) (o : Span) (es : Exprs) (commas : List Span) (trailing : Option Span)
@@ -46,6 +47,7 @@ no_letters_listed (Some Void) o es commas trailing c h = refl
 no_letters_listed (Some (Integer Char)) o es commas trailing c h = other_list (only_text es) es h
 no_letters_listed (Some (Integer Short)) o es commas trailing c h = refl
 no_letters_listed (Some (Integer Int)) o es commas trailing c h = refl
+no_letters_listed (Some (Integer UnsignedInt)) o es commas trailing c h = refl
 no_letters_listed (Some (Pointer t)) o es commas trailing c h = refl
 
 -- the string of an array of `char`

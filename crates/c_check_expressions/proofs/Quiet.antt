@@ -21,7 +21,7 @@ use Rattle.c_tree.specs.Program.{Or, Assign, Update, Conditional, Binary}
 use Rattle.c_typing.specs.Checked.{Checked, fits}
 use Rattle.c_typing.specs.Constants.{is_null}
 use Rattle.c_typing.specs.Rows.{misfit, row_at, types_of, is_scalar, can_assign, can_cast, of_sum, of_choice}
-use Rattle.c_typing.specs.Rows.{of_numbers}
+use Rattle.c_typing.specs.Rows.{of_numbers, of_shift}
 use Rattle.c_typing.specs.Rows.{of_difference, of_order, of_equality, of_conditions, operated, compared, joined}
 use Rattle.c_typing.specs.Rows.{on_number, dereferenced, address_row, unary_row, step_row, cast_row}
 use Rattle.c_typing.specs.Rows.{binary_row, element_of, index_row, conditional_row, assign_row, updated, update_row}
@@ -96,8 +96,8 @@ quiet_binary raw_binary.Divide at a b = quiet_operated of_numbers ops.Divide at 
 quiet_binary raw_binary.Remainder at a b = quiet_operated of_numbers ops.Remainder at a b
 quiet_binary raw_binary.Add at a b = quiet_operated of_sum ops.Add at a b
 quiet_binary raw_binary.Subtract at a b = quiet_operated of_difference ops.Subtract at a b
-quiet_binary raw_binary.ShiftLeft at a b = quiet_operated of_numbers ops.ShiftLeft at a b
-quiet_binary raw_binary.ShiftRight at a b = quiet_operated of_numbers ops.ShiftRight at a b
+quiet_binary raw_binary.ShiftLeft at a b = quiet_operated of_shift ops.ShiftLeft at a b
+quiet_binary raw_binary.ShiftRight at a b = quiet_operated of_shift ops.ShiftRight at a b
 quiet_binary raw_binary.Less at a b = quiet_operated of_order ops.Less at a b
 quiet_binary raw_binary.Greater at a b = quiet_operated of_order ops.Greater at a b
 quiet_binary raw_binary.LessEqual at a b = quiet_operated of_order ops.LessOrEqual at a b
@@ -147,8 +147,8 @@ quiet_to_place raw_assign.Divide at of place e = quiet_update of_numbers ops.Div
 quiet_to_place raw_assign.Remainder at of place e = quiet_update of_numbers ops.Remainder at of place e
 quiet_to_place raw_assign.Add at of place e = quiet_update of_sum ops.Add at of place e
 quiet_to_place raw_assign.Subtract at of place e = quiet_update of_difference ops.Subtract at of place e
-quiet_to_place raw_assign.ShiftLeft at of place e = quiet_update of_numbers ops.ShiftLeft at of place e
-quiet_to_place raw_assign.ShiftRight at of place e = quiet_update of_numbers ops.ShiftRight at of place e
+quiet_to_place raw_assign.ShiftLeft at of place e = quiet_update of_shift ops.ShiftLeft at of place e
+quiet_to_place raw_assign.ShiftRight at of place e = quiet_update of_shift ops.ShiftRight at of place e
 quiet_to_place raw_assign.BitAnd at of place e = quiet_update of_numbers ops.BitAnd at of place e
 quiet_to_place raw_assign.BitXor at of place e = quiet_update of_numbers ops.BitXor at of place e
 quiet_to_place raw_assign.BitOr at of place e = quiet_update of_numbers ops.BitOr at of place e

@@ -10,8 +10,8 @@ use Rattle.c_tree.specs.Program as tree
 use Rattle.c_tree.specs.Program.{value_type, Expression, Place}
 use Rattle.c_typing.specs.Checked.{Checked, fits, fails}
 use Rattle.c_typing.specs.Constants.{is_null}
-use Rattle.c_typing.specs.Rows.{of_numbers, of_sum, of_difference, of_order, of_equality, row_at, types_of, joined}
-use Rattle.c_typing.specs.Rows.{assign_row, updated}
+use Rattle.c_typing.specs.Rows.{of_numbers, of_shift, of_sum, of_difference, of_order, of_equality, row_at, types_of}
+use Rattle.c_typing.specs.Rows.{joined, assign_row, updated}
 use Rattle.c_check_expressions.specs.declared.two_operands.Joint.{Joint}
 use Rattle.c_check_expressions.specs.declared.two_operands.Joint.TheVariants as joints
 use Rattle.c_check_expressions.specs.declared.lvalues.Change.{Change}
@@ -24,8 +24,8 @@ result_type ops.Divide t null u other = of_numbers t u
 result_type ops.Remainder t null u other = of_numbers t u
 result_type ops.Add t null u other = of_sum t u
 result_type ops.Subtract t null u other = of_difference t u
-result_type ops.ShiftLeft t null u other = of_numbers t u
-result_type ops.ShiftRight t null u other = of_numbers t u
+result_type ops.ShiftLeft t null u other = of_shift t u
+result_type ops.ShiftRight t null u other = of_shift t u
 result_type ops.Less t null u other = of_order t u
 result_type ops.Greater t null u other = of_order t u
 result_type ops.LessOrEqual t null u other = of_order t u

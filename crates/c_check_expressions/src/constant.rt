@@ -1,13 +1,14 @@
 ghost use Rattle.std.specs.Prelude.{◌≡◌};
 ghost use Rattle.c_check_expressions.specs.Constants.{IsConstant};
 ghost use Rattle.c_tree.specs.Program as typed;
-ghost use Rattle.c_tree.specs.Program.{Expression};
+ghost use Rattle.c_tree.specs.Operators.{working_type};
+ghost use Rattle.c_tree.specs.Program.{value_type, Expression};
 ghost use Rattle.c_tree.specs.declared.types.ValueType.{ValueType};
 ghost use Rattle.c_tree.specs.declared.types.ValueType.TheVariants.{Integer};
 ghost use Rattle.c_typing.specs.Constants.{constant_value, has_constant_form, is_null};
 
-use c_operators::{binary_number, convert, is_true, unary_number};
-use c_tree::{BinaryOp, IntegerType, UnaryOp};
+use c_operators::{Operator, binary_number, convert, is_true, unary_number};
+use c_tree::{IntegerType, UnaryOp};
 use pcc_base::Trap;
 
 /// What an expression is as an integer constant expression (C99 6.6).
@@ -49,15 +50,17 @@ impl Constant {
         }
     }
 
-    /// An operator on two operands that are both evaluated, this one and then another (C99 6.5.5 to 6.5.12).
-    pub fn binary(self, op: BinaryOp, right: Constant) -> Constant
-        ensures { (of : ValueType) (a b : Expression) → IsConstant a self → IsConstant b right
-            → IsConstant (typed.Binary of op a b) result }
+    /// An operator on two operands that are both evaluated, this one and then another (C99 6.5.5 to 6.5.12); it works
+    /// in the type that it has for them.
+    pub fn binary(self, operator: Operator, right: Constant) -> Constant
+        ensures { (of : ValueType) (a b : Expression)
+            → operator.within ≡ working_type operator.op (value_type a) (value_type b)
+            → IsConstant a self → IsConstant b right → IsConstant (typed.Binary of operator.op a b) result }
     {
         match (self, right) {
             (Constant::NotConstant, _) | (_, Constant::NotConstant) => Constant::NotConstant,
             (Constant::Traps(trap), _) | (_, Constant::Traps(trap)) => Constant::Traps(trap),
-            (Constant::Value(a), Constant::Value(b)) => match binary_number(op, a, b) {
+            (Constant::Value(a), Constant::Value(b)) => match binary_number(operator, a, b) {
                 Ok(n) => Constant::Value(n),
                 Err(trap) => Constant::Traps(trap),
             },

@@ -13,20 +13,26 @@ ghost use Rattle.c_check_expressions.specs.Judged.{IsJudged, IsOperand, IsOperan
 use crate::constant::Constant;
 use crate::judged::{Judged, Operand, misfit_one, misfit_two};
 use crate::result_types::{can_assign, can_cast, is_scalar};
+use c_operators::promoted;
 use c_tree::{Expression, IntegerType, UnaryOp, ValueType};
 use pcc_base::{NoMemory, Span};
 use std::alloc::Global;
 
-/// An operator on one operand, an `int`.
-fn unary_of(alloc: Global, op: UnaryOp, operand: Operand) -> Result<Operand, NoMemory>
+/// An operator on one operand, with the type of its result.
+fn unary_of(
+    alloc: Global,
+    of: IntegerType,
+    op: UnaryOp,
+    operand: Operand,
+) -> Result<Operand, NoMemory>
     requires { IsOperand operand }
-    ensures { IfOk result (λ o. IsOperandOf (Unary Int op (boxed_of operand.tree)) o) }
+    ensures { IfOk result (λ o. IsOperandOf (Unary of op (boxed_of operand.tree)) o) }
 {
     let Operand { tree, constant } = operand;
-    let tree = Expression::unary(alloc, IntegerType::Int, op, tree)?;
+    let tree = Expression::unary(alloc, of, op, tree)?;
     Ok(Operand {
         tree,
-        constant: constant.unary(IntegerType::Int, op),
+        constant: constant.unary(of, op),
     })
 }
 
@@ -42,7 +48,7 @@ pub fn on_number(
         (on_number op at (value_type (boxed_of operand.tree)) (boxed_of operand.tree)) j) }
 {
     match operand.tree.value_type() {
-        ValueType::Integer(_) => Ok(Judged::Fits(unary_of(alloc, op, operand)?)),
+        ValueType::Integer(of) => Ok(Judged::Fits(unary_of(alloc, promoted(of), op, operand)?)),
         of => {
             drop(operand);
             Ok(Judged::Fails(misfit_one(at, of)))
@@ -58,7 +64,7 @@ pub fn negated(alloc: Global, at: Span, operand: Operand) -> Result<Judged<Opera
 {
     let of = operand.tree.value_type();
     if is_scalar(of) {
-        return Ok(Judged::Fits(unary_of(alloc, UnaryOp::Not, operand)?));
+        return Ok(Judged::Fits(unary_of(alloc, IntegerType::Int, UnaryOp::Not, operand)?));
     }
     drop(operand);
     Ok(Judged::Fails(misfit_one(at, of)))

@@ -15,9 +15,11 @@ ghost use Rattle.c_typing.specs.Rows.{
   of_numbers,
   of_order,
   of_pointers,
+  of_shift,
   of_sum,
 };
 
+use c_operators::{common, promoted};
 use c_tree::{IntegerType, ValueType};
 
 pub(crate) const INT: ValueType = ValueType::Integer(IntegerType::Int);
@@ -29,7 +31,8 @@ fn same_integer(t: IntegerType, u: IntegerType) -> bool
     match (t, u) {
         (IntegerType::Char, IntegerType::Char)
         | (IntegerType::Short, IntegerType::Short)
-        | (IntegerType::Int, IntegerType::Int) => true,
+        | (IntegerType::Int, IntegerType::Int)
+        | (IntegerType::UnsignedInt, IntegerType::UnsignedInt) => true,
         _ => false,
     }
 }
@@ -54,14 +57,26 @@ pub(crate) fn is_scalar(of: ValueType) -> bool
     }
 }
 
-/// The type of `* / % << >> & ^ |`.
+/// The type of `* / % & ^ |`.
 pub(crate) fn of_numbers(t: ValueType, u: ValueType) -> Option<ValueType>
     ensures is { result ≡ of_numbers t u }
     ensures integer { is_integer_type t ≡ true → is_integer_type u ≡ true
         → IfSome result (λ of. is_integer_type of ≡ true) }
 {
     match (t, u) {
-        (ValueType::Integer(_), ValueType::Integer(_)) => Some(INT),
+        (ValueType::Integer(t), ValueType::Integer(u)) => Some(ValueType::Integer(common(t, u))),
+        _ => None,
+    }
+}
+
+/// The type of `<< >>`.
+pub(crate) fn of_shift(t: ValueType, u: ValueType) -> Option<ValueType>
+    ensures is { result ≡ of_shift t u }
+    ensures integer { is_integer_type t ≡ true → is_integer_type u ≡ true
+        → IfSome result (λ of. is_integer_type of ≡ true) }
+{
+    match (t, u) {
+        (ValueType::Integer(t), ValueType::Integer(_)) => Some(ValueType::Integer(promoted(t))),
         _ => None,
     }
 }
@@ -73,7 +88,7 @@ pub(crate) fn of_sum(t: ValueType, u: ValueType) -> Option<ValueType>
         → IfSome result (λ of. is_integer_type of ≡ true) }
 {
     match (t, u) {
-        (ValueType::Integer(_), ValueType::Integer(_)) => Some(INT),
+        (ValueType::Integer(t), ValueType::Integer(u)) => Some(ValueType::Integer(common(t, u))),
         (ValueType::Pointer(_), ValueType::Integer(_)) => Some(t),
         (ValueType::Integer(_), ValueType::Pointer(_)) => Some(u),
         _ => None,
@@ -94,7 +109,7 @@ pub(crate) fn of_difference(t: ValueType, u: ValueType) -> Option<ValueType>
         → IfSome result (λ of. is_integer_type of ≡ true) }
 {
     match (t, u) {
-        (ValueType::Integer(_), ValueType::Integer(_)) => Some(INT),
+        (ValueType::Integer(t), ValueType::Integer(u)) => Some(ValueType::Integer(common(t, u))),
         (ValueType::Pointer(_), ValueType::Integer(_)) => Some(t),
         (ValueType::Pointer(t), ValueType::Pointer(u)) => if_same(t, u, INT),
         _ => None,
@@ -148,7 +163,7 @@ pub(crate) fn of_choice(t: ValueType, null: bool, u: ValueType, other: bool) -> 
         → IfSome result (λ of. is_integer_type of ≡ true) }
 {
     match (t, u) {
-        (ValueType::Integer(_), ValueType::Integer(_)) => Some(INT),
+        (ValueType::Integer(t), ValueType::Integer(u)) => Some(ValueType::Integer(common(t, u))),
         (ValueType::Void, ValueType::Void) => Some(t),
         _ => of_pointers(t, null, u, other),
     }

@@ -12,8 +12,9 @@ ghost use Rattle.c_check_expressions.specs.declared.two_operands.Joint.TheVarian
 use crate::constant::Constant;
 use crate::judged::{Judged, Operand, misfits};
 use crate::result_types::{
-    of_conditions, of_difference, of_equality, of_numbers, of_order, of_sum,
+    of_conditions, of_difference, of_equality, of_numbers, of_order, of_shift, of_sum,
 };
+use c_operators::{Operator, working_type};
 use c_syntax::BinaryOp as RawOp;
 use c_tree::{BinaryOp, Expression, ValueType};
 use pcc_base::{NoMemory, Span};
@@ -34,7 +35,10 @@ fn binary_of(
     ensures { IfOk result (λ o.
         IsOperandOf (Binary of op (boxed_of left.tree) (boxed_of right.tree)) o) }
 {
-    let constant = left.constant.binary(op, right.constant);
+    let within = working_type(op, left.tree.value_type(), right.tree.value_type());
+    let constant = left
+        .constant
+        .binary(Operator { op, within }, right.constant);
     let tree = Expression::binary(alloc, of, op, left.tree, right.tree)?;
     Ok(Operand { tree, constant })
 }
@@ -138,11 +142,10 @@ pub(crate) fn type_of(
         BinaryOp::Multiply
         | BinaryOp::Divide
         | BinaryOp::Remainder
-        | BinaryOp::ShiftLeft
-        | BinaryOp::ShiftRight
         | BinaryOp::BitAnd
         | BinaryOp::BitXor
         | BinaryOp::BitOr => of_numbers(t, u),
+        BinaryOp::ShiftLeft | BinaryOp::ShiftRight => of_shift(t, u),
         BinaryOp::Add => of_sum(t, u),
         BinaryOp::Subtract => of_difference(t, u),
         BinaryOp::Less | BinaryOp::Greater | BinaryOp::LessOrEqual | BinaryOp::GreaterOrEqual =>

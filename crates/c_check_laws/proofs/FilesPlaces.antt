@@ -27,7 +27,7 @@ use Rattle.c_syntax.specs.Statements as trees
 use Rattle.c_syntax.specs.Statements.{Stmt, Stmts, NoStmt, OneStmt, ExternalTree, FunctionTree, DeclaredTree}
 use Rattle.c_syntax.specs.StatementTokens.{labels_tokens, stmt_tokens, stmts_tokens, IsMaybeExpr, IsStmt}
 use Rattle.c_tree.specs.declared.types.IntegerType.{IntegerType}
-use Rattle.c_tree.specs.declared.types.IntegerType.TheVariants.{Char, Short, Int}
+use Rattle.c_tree.specs.declared.types.IntegerType.TheVariants.{Char, Short, Int, UnsignedInt}
 use Rattle.c_tree.specs.declared.types.ValueType.{ValueType}
 use Rattle.c_tree.specs.declared.types.ValueType.TheVariants.{Void, Integer, Pointer}
 use Rattle.c_tree.specs.Program as tree
@@ -180,6 +180,7 @@ array_at : (s : Scope) (t : IntegerType) (v : InitialiserTree) → IsInitialiser
 array_at s Char v h = char_at s v h
 array_at s Short v h = other_at s v h
 array_at s Int v h = other_at s v h
+array_at s UnsignedInt v h = other_at s v h
 
 letters_placed : {A : Type 0} (T : List Token) (n : ℕ) (pieces : List TextPiece) (value : A)
     → Sub (first_piece pieces ∷ []) T → Placed T (letters_for n pieces value)
@@ -314,6 +315,7 @@ array_right : (s : Scope) (t : IntegerType) (n : ℕ) (v : InitialiserTree) → 
 array_right s Char n v h z = chars_right s n (array_values Char v) (initialiser_tokens v) (char_at s v h) z
 array_right s Short n v h z = others_right s Short n v h z
 array_right s Int n v h z = others_right s Int n v h z
+array_right s UnsignedInt n v h z = others_right s UnsignedInt n v h z
 
 -- the values of an object fit its elements
 pub contents_right : (s : Scope) (type : ObjectType) (otherwise : Contents) (v : Option ValueTree) → IsMaybeValue v

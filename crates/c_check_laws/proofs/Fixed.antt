@@ -31,7 +31,8 @@ use Rattle.c_typing.specs.Library as library
 use Rattle.c_typing.specs.Types.{InCast, Specified, specified, pointed}
 use Rattle.c_typing.specs.Checked.{Checked, Note, Fits, Fails, fits, noted, also, if_fits, pair, both, or_fails}
 use Rattle.c_typing.specs.Names.{Meaning, Local, LocalArray, Object, ObjectArray, Function, Scope, meaning_of}
-use Rattle.c_typing.specs.Rows.{misfit, row_at, of_numbers, of_sum, of_difference, of_order, of_equality, of_choice}
+use Rattle.c_typing.specs.Rows.{misfit, row_at, of_numbers, of_shift, of_sum, of_difference, of_order, of_equality}
+use Rattle.c_typing.specs.Rows.{of_choice}
 use Rattle.c_typing.specs.Rows.{is_scalar, can_assign, on_number, dereferenced, address_of_place, place_named}
 use Rattle.c_typing.specs.Rows.{address_row}
 use Rattle.c_typing.specs.Rows.{unary_row, step_row, can_cast, cast_row, types_of, operated, compared, of_conditions}
@@ -119,8 +120,8 @@ binary_keeps raw_binary.Divide = operated_keeps of_numbers _
 binary_keeps raw_binary.Remainder = operated_keeps of_numbers _
 binary_keeps raw_binary.Add = operated_keeps of_sum _
 binary_keeps raw_binary.Subtract = operated_keeps of_difference _
-binary_keeps raw_binary.ShiftLeft = operated_keeps of_numbers _
-binary_keeps raw_binary.ShiftRight = operated_keeps of_numbers _
+binary_keeps raw_binary.ShiftLeft = operated_keeps of_shift _
+binary_keeps raw_binary.ShiftRight = operated_keeps of_shift _
 binary_keeps raw_binary.Less = operated_keeps of_order _
 binary_keeps raw_binary.Greater = operated_keeps of_order _
 binary_keeps raw_binary.LessEqual = operated_keeps of_order _
@@ -174,8 +175,8 @@ to_place_keeps K raw_assign.Divide at of p e = updated_keeps K _ at of p e (of_n
 to_place_keeps K raw_assign.Remainder at of p e = updated_keeps K _ at of p e (of_numbers of (value_type e))
 to_place_keeps K raw_assign.Add at of p e = updated_keeps K _ at of p e (of_sum of (value_type e))
 to_place_keeps K raw_assign.Subtract at of p e = updated_keeps K _ at of p e (of_difference of (value_type e))
-to_place_keeps K raw_assign.ShiftLeft at of p e = updated_keeps K _ at of p e (of_numbers of (value_type e))
-to_place_keeps K raw_assign.ShiftRight at of p e = updated_keeps K _ at of p e (of_numbers of (value_type e))
+to_place_keeps K raw_assign.ShiftLeft at of p e = updated_keeps K _ at of p e (of_shift of (value_type e))
+to_place_keeps K raw_assign.ShiftRight at of p e = updated_keeps K _ at of p e (of_shift of (value_type e))
 to_place_keeps K raw_assign.BitAnd at of p e = updated_keeps K _ at of p e (of_numbers of (value_type e))
 to_place_keeps K raw_assign.BitXor at of p e = updated_keeps K _ at of p e (of_numbers of (value_type e))
 to_place_keeps K raw_assign.BitOr at of p e = updated_keeps K _ at of p e (of_numbers of (value_type e))

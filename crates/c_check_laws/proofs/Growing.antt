@@ -19,7 +19,7 @@ use Rattle.c_syntax.specs.Statements as trees
 use Rattle.c_syntax.specs.Statements.{Stmt, Stmts, NoStmt, OneStmt}
 use Rattle.c_syntax.specs.StatementTokens.{IsStmt, AreItems, AreCases}
 use Rattle.c_tree.specs.declared.types.IntegerType.{IntegerType}
-use Rattle.c_tree.specs.declared.types.IntegerType.TheVariants.{Char, Short, Int}
+use Rattle.c_tree.specs.declared.types.IntegerType.TheVariants.{Char, Short, Int, UnsignedInt}
 use Rattle.c_tree.specs.declared.types.ValueType.{ValueType}
 use Rattle.c_tree.specs.declared.types.ValueType.TheVariants.{Void, Integer, Pointer}
 use Rattle.c_tree.specs.Program as tree
@@ -81,6 +81,7 @@ values_count : (t : IntegerType) (v : InitialiserTree) → IsInitialiser v
 values_count Char v h = char_count v h
 values_count Short v h = other_count v h
 values_count Int v h = other_count v h
+values_count UnsignedInt v h = other_count v h
 
 value_count : (of : Option ValueType) (v : Option ValueTree) → IsMaybeValue v
     → IfSome (count_by_value of v) (λ n. 1 ≤ n)

@@ -20,7 +20,7 @@ use Rattle.c_syntax.specs.Declarations.{ItemTree, DeclarationTree, PartTree, Ini
 use Rattle.c_syntax.specs.Declarations.{ValueTree}
 use Rattle.c_syntax.specs.DeclarationTokens.{IsItem as IsItemTree, IsDeclaration}
 use Rattle.c_tree.specs.declared.types.IntegerType.{IntegerType}
-use Rattle.c_tree.specs.declared.types.IntegerType.TheVariants.{Char, Short, Int}
+use Rattle.c_tree.specs.declared.types.IntegerType.TheVariants.{Char, Short, Int, UnsignedInt}
 use Rattle.c_tree.specs.declared.types.ValueType.{ValueType}
 use Rattle.c_tree.specs.declared.types.ValueType.TheVariants.{Void, Integer, Pointer}
 use Rattle.c_tree.specs.Program as tree
@@ -201,9 +201,9 @@ module _ (w : Setting) (f : tree.Function) where
       sound_if w (Sees w f s) (Good w f) (Initialises element n) (typed_expression s e)
       (λ x. fails kinds.Initialiser (first_token e)) (typed_sound w f s e) (λ x z. tt)
 
-  chars_by : (v : InitialiserTree) → LettersAreChars Short (other_values v) × LettersAreChars Int (other_values v)
-  chars_by (Single e) = (tt, tt)
-  chars_by (Braces o es commas trailing c) = (tt, tt)
+  no_letters : (element : IntegerType) (v : InitialiserTree) → LettersAreChars element (other_values v)
+  no_letters element (Single e) = tt
+  no_letters element (Braces o es commas trailing c) = tt
 
   char_letters : (values : ArrayValues) → LettersAreChars Char values
   char_letters (Letters pieces) = refl
@@ -213,8 +213,9 @@ module _ (w : Setting) (f : tree.Function) where
   letters_are_chars : (element : IntegerType) (v : InitialiserTree)
       → LettersAreChars element (array_values element v)
   letters_are_chars Char v = char_letters (array_values Char v)
-  letters_are_chars Short v = (chars_by v).0
-  letters_are_chars Int v = (chars_by v).1
+  letters_are_chars Short v = no_letters Short v
+  letters_are_chars Int v = no_letters Int v
+  letters_are_chars UnsignedInt v = no_letters UnsignedInt v
 
   array_sound : (s : Scope) (element : IntegerType) (n : ℕ) (v : Option ValueTree)
       → Sound w (Sees w f s) (Initialises element n) (array_initialiser s element n v)

@@ -13,7 +13,6 @@ use Rattle.c_syntax.specs.declared.operator.UnaryOp as raw_one
 use Rattle.c_syntax.specs.declared.operator.UnaryOp.TheVariants as raw_unary
 use Rattle.c_syntax.specs.declared.operator.AssignOp.{AssignOp}
 use Rattle.c_syntax.specs.declared.operator.AssignOp.TheVariants as raw_assign
-use Rattle.c_syntax.specs.declared.expression.Identifier.{Identifier}
 use Rattle.c_syntax.specs.declared.expression.Specifier.{Specifier}
 use Rattle.c_syntax.specs.Expressions.{Star, Expr}
 use Rattle.c_syntax.specs.Declarations as parts
@@ -44,7 +43,8 @@ use Rattle.c_typing.specs.Rows.{misfit, row_at, is_scalar, can_assign, assigned,
 use Rattle.c_typing.specs.Rows.{dereferenced}
 use Rattle.c_typing.specs.Rows.{address_of_place, place_named, address_row, unary_row, step_row, can_cast, cast_row}
 use Rattle.c_typing.specs.Rows.{types_of}
-use Rattle.c_typing.specs.Rows.{of_numbers, of_sum, of_difference, of_order, of_equality, of_conditions, of_choice}
+use Rattle.c_typing.specs.Rows.{of_numbers, of_shift, of_sum, of_difference, of_order, of_equality, of_conditions}
+use Rattle.c_typing.specs.Rows.{of_choice}
 use Rattle.c_typing.specs.Rows.{binary_row, element_of, index_row, conditional_row, updated, to_place_row}
 use Rattle.c_typing.specs.Rows.{assignment_row}
 use Rattle.c_typing.specs.Expressions.{specifiers_at, first_word, type_name, typed_expression}
@@ -156,8 +156,8 @@ binary_plain raw_binary.Divide at a b = plain_row at (types_of a b) (of_numbers 
 binary_plain raw_binary.Remainder at a b = plain_row at (types_of a b) (of_numbers (value_type a) (value_type b)) _
 binary_plain raw_binary.Add at a b = plain_row at (types_of a b) (of_sum (value_type a) (value_type b)) _
 binary_plain raw_binary.Subtract at a b = plain_row at (types_of a b) (of_difference (value_type a) (value_type b)) _
-binary_plain raw_binary.ShiftLeft at a b = plain_row at (types_of a b) (of_numbers (value_type a) (value_type b)) _
-binary_plain raw_binary.ShiftRight at a b = plain_row at (types_of a b) (of_numbers (value_type a) (value_type b)) _
+binary_plain raw_binary.ShiftLeft at a b = plain_row at (types_of a b) (of_shift (value_type a) (value_type b)) _
+binary_plain raw_binary.ShiftRight at a b = plain_row at (types_of a b) (of_shift (value_type a) (value_type b)) _
 binary_plain raw_binary.Less at a b = plain_row at (types_of a b) (of_order (value_type a) (value_type b)) _
 binary_plain raw_binary.Greater at a b = plain_row at (types_of a b) (of_order (value_type a) (value_type b)) _
 binary_plain raw_binary.LessEqual at a b = plain_row at (types_of a b) (of_order (value_type a) (value_type b)) _
@@ -203,8 +203,8 @@ to_place_plain raw_assign.Divide at of p e = updated_plain _ at of p e (of_numbe
 to_place_plain raw_assign.Remainder at of p e = updated_plain _ at of p e (of_numbers of (value_type e))
 to_place_plain raw_assign.Add at of p e = updated_plain _ at of p e (of_sum of (value_type e))
 to_place_plain raw_assign.Subtract at of p e = updated_plain _ at of p e (of_difference of (value_type e))
-to_place_plain raw_assign.ShiftLeft at of p e = updated_plain _ at of p e (of_numbers of (value_type e))
-to_place_plain raw_assign.ShiftRight at of p e = updated_plain _ at of p e (of_numbers of (value_type e))
+to_place_plain raw_assign.ShiftLeft at of p e = updated_plain _ at of p e (of_shift of (value_type e))
+to_place_plain raw_assign.ShiftRight at of p e = updated_plain _ at of p e (of_shift of (value_type e))
 to_place_plain raw_assign.BitAnd at of p e = updated_plain _ at of p e (of_numbers of (value_type e))
 to_place_plain raw_assign.BitXor at of p e = updated_plain _ at of p e (of_numbers of (value_type e))
 to_place_plain raw_assign.BitOr at of p e = updated_plain _ at of p e (of_numbers of (value_type e))

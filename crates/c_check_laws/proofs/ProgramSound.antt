@@ -47,7 +47,7 @@ use Rattle.c_check_laws.proofs.Finding.{any_is, any_in, none_of, in_objects, of_
 use Rattle.c_check_laws.proofs.Finding.{filled_length}
 use Rattle.c_check_laws.proofs.Finding.{function_found, matched, StaticOf, FunctionOf}
 use Rattle.std.proofs.Common.{ℤ, pos}
-use Rattle.c_tree.specs.declared.types.IntegerType.TheVariants.{Char, Short, Int}
+use Rattle.c_tree.specs.declared.types.IntegerType.TheVariants.{Char, Short, Int, UnsignedInt}
 use Rattle.c_tree.specs.Objects.{IsObject, data_object, data_objects}
 use Rattle.c_tree.specs.Sizes.{bytes_of}
 use Rattle.pcc_base.specs.Objects.{FitsBytes}
@@ -125,6 +125,7 @@ width_is : (t : IntegerType) → (bytes_of t ≡ 1) ⊎ (bytes_of t ≡ 2) ⊎ (
 width_is Char = inl refl
 width_is Short = inr (inl refl)
 width_is Int = inr (inr refl)
+width_is UnsignedInt = inr (inr refl)
 
 -- objects that agree, whose values fit and which have elements, are right
 object_right : (all : List Stored) (y : Stored) → 1 ≤ y.count

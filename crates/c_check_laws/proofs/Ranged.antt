@@ -25,7 +25,7 @@ use Rattle.c_tree.specs.declared.expression.BinaryOp.{BinaryOp}
 use Rattle.c_tree.specs.declared.expression.StepOp.{StepOp}
 use Rattle.c_tree.specs.declared.expression.UnaryOp.{UnaryOp}
 use Rattle.c_tree.specs.declared.types.IntegerType.{IntegerType}
-use Rattle.c_tree.specs.declared.types.IntegerType.TheVariants.{Char, Short, Int}
+use Rattle.c_tree.specs.declared.types.IntegerType.TheVariants.{Char, Short, Int, UnsignedInt}
 use Rattle.c_tree.specs.declared.types.ValueType.{ValueType}
 use Rattle.c_tree.specs.declared.types.ValueType.TheVariants.{Void, Integer, Pointer}
 use Rattle.c_tree.specs.Program as tree
@@ -40,7 +40,8 @@ use Rattle.c_typing.specs.Library as library
 use Rattle.c_typing.specs.Checked.{Contents, Elsewhere, Zeros, Values, fits, if_fits, pair}
 use Rattle.c_typing.specs.Checked.{or_fails}
 use Rattle.c_typing.specs.Names.{Meaning, Local, LocalArray, Object, ObjectArray, Function, Scope, meaning_of}
-use Rattle.c_typing.specs.Rows.{misfit, row_at, of_numbers, of_sum, of_difference, of_order, of_equality, of_conditions}
+use Rattle.c_typing.specs.Rows.{misfit, row_at, of_numbers, of_shift, of_sum, of_difference, of_order, of_equality}
+use Rattle.c_typing.specs.Rows.{of_conditions}
 use Rattle.c_typing.specs.Rows.{of_choice, is_scalar, can_assign, on_number, dereferenced, address_of_place}
 use Rattle.c_typing.specs.Rows.{place_named}
 use Rattle.c_typing.specs.Rows.{address_row, unary_row, step_row, can_cast, cast_row, types_of, binary_row, element_of}
@@ -123,9 +124,9 @@ binary_ranged raw_binary.Add at a b h k =
 binary_ranged raw_binary.Subtract at a b h k =
     ranged_row at (types_of a b) (of_difference (value_type a) (value_type b)) _ (λ of. (h, k))
 binary_ranged raw_binary.ShiftLeft at a b h k =
-    ranged_row at (types_of a b) (of_numbers (value_type a) (value_type b)) _ (λ of. (h, k))
+    ranged_row at (types_of a b) (of_shift (value_type a) (value_type b)) _ (λ of. (h, k))
 binary_ranged raw_binary.ShiftRight at a b h k =
-    ranged_row at (types_of a b) (of_numbers (value_type a) (value_type b)) _ (λ of. (h, k))
+    ranged_row at (types_of a b) (of_shift (value_type a) (value_type b)) _ (λ of. (h, k))
 binary_ranged raw_binary.Less at a b h k =
     ranged_row at (types_of a b) (of_order (value_type a) (value_type b)) _ (λ of. (h, k))
 binary_ranged raw_binary.Greater at a b h k =
@@ -171,8 +172,8 @@ to_place_ranged raw_assign.Divide at of p e = updated_ranged _ at of p e (of_num
 to_place_ranged raw_assign.Remainder at of p e = updated_ranged _ at of p e (of_numbers of (value_type e))
 to_place_ranged raw_assign.Add at of p e = updated_ranged _ at of p e (of_sum of (value_type e))
 to_place_ranged raw_assign.Subtract at of p e = updated_ranged _ at of p e (of_difference of (value_type e))
-to_place_ranged raw_assign.ShiftLeft at of p e = updated_ranged _ at of p e (of_numbers of (value_type e))
-to_place_ranged raw_assign.ShiftRight at of p e = updated_ranged _ at of p e (of_numbers of (value_type e))
+to_place_ranged raw_assign.ShiftLeft at of p e = updated_ranged _ at of p e (of_shift of (value_type e))
+to_place_ranged raw_assign.ShiftRight at of p e = updated_ranged _ at of p e (of_shift of (value_type e))
 to_place_ranged raw_assign.BitAnd at of p e = updated_ranged _ at of p e (of_numbers of (value_type e))
 to_place_ranged raw_assign.BitXor at of p e = updated_ranged _ at of p e (of_numbers of (value_type e))
 to_place_ranged raw_assign.BitOr at of p e = updated_ranged _ at of p e (of_numbers of (value_type e))
@@ -278,11 +279,13 @@ converted_fits : (t : IntegerType) (n : ℤ) → IsInt n → FitsBytes (bytes_of
 converted_fits Char n h = byte_fits (int_wrap w8 n) (SFits-int_wrap w8 n)
 converted_fits Short n h = short_fits (int_wrap w16 n) (SFits-int_wrap w16 n)
 converted_fits Int n h = int_fits n h
+converted_fits UnsignedInt n h = int_fits n h
 
 pub zero_fits : (t : IntegerType) → FitsBytes (bytes_of t) (pos 0)
 zero_fits Char = (omega (arith, ints), omega (arith, ints))
 zero_fits Short = (omega (arith, ints), omega (arith, ints))
 zero_fits Int = (omega (arith, ints), omega (arith, ints))
+zero_fits UnsignedInt = (omega (arith, ints), omega (arith, ints))
 
 option_fits : (t : IntegerType) (o : Option ℤ) (at : Span) → IfSome o IsInt
     → IfFits (FitsBytes (bytes_of t)) (or_fails (option_map (converted t) o) kinds.Initialiser at)

@@ -1,13 +1,14 @@
 -- The value of an integer constant expression is an `int` where its constants are.
 use Rattle.std.proofs.Common.{arith, rules, ◌≡◌, refl, sym, ap, ◌∙◌, ℕ, zero, suc, pos, negsuc, Bool, true, false}
 use Rattle.std.proofs.Common.{w8, w16, w32}
-use Rattle.std.specs.Prelude.{ℤ, FitsSigned, ◌<◌, ◌≤◌, ◌/◌, ◌*◌, ◌^◌, int_div, int_rem, unsigned_abs}
+use Rattle.std.specs.Prelude.{ℤ, FitsSigned, ◌<◌, ◌≤◌, ◌/◌, ◌%◌, ◌*◌, ◌^◌, int_div, int_rem, unsigned_abs}
 use Rattle.std.specs.Prelude.{None, IfSome, ◌&&◌, if◌then◌else◌, not, int_lt}
 use Rattle.std.specs.Ordering.{int_eq}
 use Rattle.std.specs.Int.{int_wrap, int_bit_and, int_bit_or, int_bit_xor, int_bit_not}
 use Rattle.std.proofs.lemmas.Int.{SFits-int_wrap, ints, rem_below}
 use Rattle.std.proofs.lemmas.Bool.Decides.{Decides-int_eq}
 use Rattle.std.proofs.lemmas.Bool.{and_parts}
+use Rattle.pcc_base.specs.Arithmetic.{with_bits}
 use Rattle.pcc_base.specs.Outcome.{ArrayName, Null}
 use Rattle.pcc_base.specs.declared.run.Trap.TheVariants as trapped
 use Rattle.c_tree.specs.declared.expression.BinaryOp.{BinaryOp}
@@ -15,14 +16,17 @@ use Rattle.c_tree.specs.declared.expression.BinaryOp.TheVariants as ops
 use Rattle.c_tree.specs.declared.expression.UnaryOp.{UnaryOp}
 use Rattle.c_tree.specs.declared.expression.UnaryOp.TheVariants as ones
 use Rattle.c_tree.specs.declared.types.IntegerType.{IntegerType}
-use Rattle.c_tree.specs.declared.types.IntegerType.TheVariants.{Char, Short, Int}
+use Rattle.c_tree.specs.declared.types.IntegerType.TheVariants.{Char, Short, Int, UnsignedInt}
 use Rattle.c_tree.specs.declared.types.ValueType.{ValueType}
 use Rattle.c_tree.specs.declared.types.ValueType.TheVariants.{Void, Integer, Pointer}
-use Rattle.c_tree.specs.Program.{Expression, Constant, Start, Read, Address, Unary, Binary, And, Or, Conditional, Cast}
+use Rattle.c_tree.specs.Program.{value_type, Expression, Constant, Start, Read, Address, Unary, Binary, And, Or}
+use Rattle.c_tree.specs.Program.{Conditional, Cast}
 use Rattle.c_tree.specs.Program.{Assign, Update, Step, Comma, Call, Putchar, Getchar, Exit}
 use Rattle.c_tree.specs.Store.{Held, HoldsNumber, HoldsPointer, converted, in_type, State, Evaluated, Gives, Ends}
 use Rattle.c_tree.specs.Store.{and_then}
-use Rattle.c_tree.specs.Operators.{Computed, Computes, Traps, is_true, unary_number, unary_value, no_quotient}
+use Rattle.c_tree.specs.Operators.{Computed, Computes, Traps, is_true, unary_number, unary_value, no_quotient, number}
+use Rattle.c_tree.specs.Operators.{is_signed, is_less, working_type, signed_quotient, signed_remainder, quotient_from_0}
+use Rattle.c_tree.specs.Operators.{remainder_from_0, no_unsigned_quotient, shifted_unsigned, unsigned}
 use Rattle.c_tree.specs.Operators.{shift_count, shifted_right, numbers_value, same_array}
 use Rattle.c_tree.specs.Operators.{same_pointer, pointers_value, pointer_number_value, binary_value}
 use Rattle.c_tree.specs.Evaluation.{computed, evaluate}
@@ -137,6 +141,31 @@ shift_int (negsuc n) k h =
     shifted : (n q : ℕ) → IsInt (negsuc n) → q ≤ n → IsInt (negsuc q)
     shifted n q h l = (omega (arith, ints, h, l), omega (arith, ints, h, l))
 
+-- ---- numbers without sign
+
+bits_fit : (n : ℕ) → n < 2 ^ 32 → FitsSigned w32 (with_bits n)
+bits_fit n h = search rules
+
+bits_int : (n : ℕ) → n < 2 ^ 32 → IsInt (with_bits n)
+bits_int n h = fits_int (with_bits n) (bits_fit n h)
+
+unsigned_bits : (a : ℤ) → IsInt a → unsigned a < 2 ^ 32
+unsigned_bits (pos m) h = omega (arith, ints, h)
+unsigned_bits (negsuc m) h = omega (arith, ints, h)
+
+any_remainder : (m d : ℕ) → m % d ≤ m
+any_remainder m zero = omega arith
+any_remainder m (suc n) = omega arith
+
+no_more_bits : (m n : ℕ) → m ≤ n → n < 2 ^ 32 → m < 2 ^ 32
+no_more_bits m n h k = omega (arith, h, k)
+
+quotient_bits : (a : ℤ) (d : ℕ) → IsInt a → unsigned a / d < 2 ^ 32
+quotient_bits a d h = no_more_bits (unsigned a / d) (unsigned a) (any_quotient (unsigned a) d) (unsigned_bits a h)
+
+remainder_bits : (a : ℤ) (d : ℕ) → IsInt a → unsigned a % d < 2 ^ 32
+remainder_bits a d h = no_more_bits (unsigned a % d) (unsigned a) (any_remainder (unsigned a) d) (unsigned_bits a h)
+
 -- ---- operators
 
 -- a number is an `int`
@@ -158,23 +187,44 @@ remainder_by : (a b : ℤ) (t : Bool) → no_quotient a b ≡ t → IsInt b
 remainder_by a b true e h = tt
 remainder_by a b false e h = rem_int a b h e
 
-numbers_get : (op : BinaryOp) (a b : ℤ) → IsInt a → IsInt b → Gets (numbers_value op a b)
-numbers_get ops.Multiply a b h k = wrap_int _
-numbers_get ops.Divide a b h k = quotient_by a b (no_quotient a b) refl h
-numbers_get ops.Remainder a b h k = remainder_by a b (no_quotient a b) refl k
-numbers_get ops.Add a b h k = wrap_int _
-numbers_get ops.Subtract a b h k = wrap_int _
-numbers_get ops.ShiftLeft a b h k = wrap_int _
-numbers_get ops.ShiftRight a b h k = shift_int a (shift_count b) h
-numbers_get ops.Less a b h k = bool_int (int_lt a b)
-numbers_get ops.Greater a b h k = bool_int (int_lt b a)
-numbers_get ops.LessOrEqual a b h k = bool_int (not (int_lt b a))
-numbers_get ops.GreaterOrEqual a b h k = bool_int (not (int_lt a b))
-numbers_get ops.Equal a b h k = bool_int (int_eq a b)
-numbers_get ops.NotEqual a b h k = bool_int (not (int_eq a b))
-numbers_get ops.BitAnd a b h k = fits_int (int_bit_and w32 a b) (and_fits a b)
-numbers_get ops.BitXor a b h k = fits_int (int_bit_xor w32 a b) (xor_fits a b)
-numbers_get ops.BitOr a b h k = fits_int (int_bit_or w32 a b) (or_fits a b)
+gets_bits : (t : Bool) (n : ℕ) → n < 2 ^ 32 → Gets (if t then Traps trapped.Divide else number (with_bits n))
+gets_bits true n h = tt
+gets_bits false n h = bits_int n h
+
+quotient_within : (a b : ℤ) (signed : Bool) → IsInt a
+    → Gets (if signed then signed_quotient a b else quotient_from_0 a b)
+quotient_within a b true h = quotient_by a b (no_quotient a b) refl h
+quotient_within a b false h =
+    gets_bits (no_unsigned_quotient a b) (unsigned a / unsigned b) (quotient_bits a (unsigned b) h)
+
+remainder_within : (a b : ℤ) (signed : Bool) → IsInt a → IsInt b
+    → Gets (if signed then signed_remainder a b else remainder_from_0 a b)
+remainder_within a b true h k = remainder_by a b (no_quotient a b) refl k
+remainder_within a b false h k =
+    gets_bits (no_unsigned_quotient a b) (unsigned a % unsigned b) (remainder_bits a (unsigned b) h)
+
+shift_within : (a : ℤ) (k : ℕ) (signed : Bool) → IsInt a
+    → IsInt (if signed then shifted_right a k else shifted_unsigned a k)
+shift_within a k true h = shift_int a k h
+shift_within a k false h = bits_int (unsigned a / 2 ^ k) (quotient_bits a (2 ^ k) h)
+
+numbers_get : (within : IntegerType) (op : BinaryOp) (a b : ℤ) → IsInt a → IsInt b → Gets (numbers_value within op a b)
+numbers_get within ops.Multiply a b h k = wrap_int _
+numbers_get within ops.Divide a b h k = quotient_within a b (is_signed within) h
+numbers_get within ops.Remainder a b h k = remainder_within a b (is_signed within) h k
+numbers_get within ops.Add a b h k = wrap_int _
+numbers_get within ops.Subtract a b h k = wrap_int _
+numbers_get within ops.ShiftLeft a b h k = wrap_int _
+numbers_get within ops.ShiftRight a b h k = shift_within a (shift_count b) (is_signed within) h
+numbers_get within ops.Less a b h k = bool_int (is_less within a b)
+numbers_get within ops.Greater a b h k = bool_int (is_less within b a)
+numbers_get within ops.LessOrEqual a b h k = bool_int (not (is_less within b a))
+numbers_get within ops.GreaterOrEqual a b h k = bool_int (not (is_less within a b))
+numbers_get within ops.Equal a b h k = bool_int (int_eq a b)
+numbers_get within ops.NotEqual a b h k = bool_int (not (int_eq a b))
+numbers_get within ops.BitAnd a b h k = fits_int (int_bit_and w32 a b) (and_fits a b)
+numbers_get within ops.BitXor a b h k = fits_int (int_bit_xor w32 a b) (xor_fits a b)
+numbers_get within ops.BitOr a b h k = fits_int (int_bit_or w32 a b) (or_fits a b)
 
 in_array : (t : Bool) (c : Computed) → Gets c → Gets (if t then c else Traps trapped.Check)
 in_array true c h = h
@@ -216,16 +266,18 @@ mixed_get ops.BitAnd a i n = zero_int
 mixed_get ops.BitXor a i n = zero_int
 mixed_get ops.BitOr a i n = zero_int
 
-binary_get : (op : BinaryOp) (x y : Held) → Number x → Number y → Gets (binary_value op x y)
-binary_get op (HoldsNumber a) (HoldsNumber b) h k = numbers_get op a b h k
-binary_get op (HoldsPointer a i) (HoldsPointer b j) h k = pointers_get op a i b j
-binary_get op (HoldsPointer a i) (HoldsNumber n) h k = mixed_get op a i n
-binary_get op (HoldsNumber n) (HoldsPointer b j) h k = mixed_get op b j n
+binary_get : (within : IntegerType) (op : BinaryOp) (x y : Held) → Number x → Number y
+    → Gets (binary_value within op x y)
+binary_get within op (HoldsNumber a) (HoldsNumber b) h k = numbers_get within op a b h k
+binary_get within op (HoldsPointer a i) (HoldsPointer b j) h k = pointers_get op a i b j
+binary_get within op (HoldsPointer a i) (HoldsNumber n) h k = mixed_get op a i n
+binary_get within op (HoldsNumber n) (HoldsPointer b j) h k = mixed_get op b j n
 
 pub converted_int : (t : IntegerType) (n : ℤ) → IsInt n → IsInt (converted t n)
 converted_int Char n h = narrow_8 (int_wrap w8 n) (SFits-int_wrap w8 n)
 converted_int Short n h = narrow_16 (int_wrap w16 n) (SFits-int_wrap w16 n)
 converted_int Int n h = h
+converted_int UnsignedInt n h = h
 
 unary_int : (op : UnaryOp) (n : ℤ) → IsInt n → IsInt (unary_number op n)
 unary_int ones.Plus n h = h
@@ -300,10 +352,11 @@ value_int (Unary of op e) c r s =
     given_then (evaluate no_calls e s) (λ v t. Gives (unary_value of op v) t) (value_int e c r s)
     (λ v t h. unary_get of op v h)
 value_int (Binary of op a b) c r s =
+    let within = working_type op (value_type a) (value_type b) in
     let p = and_parts (has_constant_form a) (has_constant_form b) c in
     given_then (evaluate no_calls a s) _ (value_int a p.0 r.0 s) (λ x t h.
     given_then (evaluate no_calls b t) _ (value_int b p.1 r.1 t) (λ y u k.
-    given_computed (binary_value op x y) u (binary_get op x y h k)))
+    given_computed (binary_value within op x y) u (binary_get within op x y h k)))
 value_int (And a b) c r s =
     let p = and_parts (has_constant_form a) (has_constant_form b) c in
     given_then (evaluate no_calls a s) _ (value_int a p.0 r.0 s) (λ x t h.

@@ -1,5 +1,5 @@
 -- The rows of typing give well typed trees.
-use Rattle.std.proofs.Common.{arith, ◌≡◌, refl, Bool, true, false, List, [], ◌∷◌}
+use Rattle.std.proofs.Common.{arith, ◌≡◌, refl, sym, ap, Bool, true, false, List, [], ◌∷◌}
 use Rattle.std.specs.Prelude.{Option, Some, None, IfSome, if◌then◌else◌, option_map}
 use Rattle.std.specs.Prelude.{◌||◌}
 use Rattle.pcc_base.specs.declared.span.Span.{Span}
@@ -15,9 +15,10 @@ use Rattle.c_tree.specs.declared.expression.StepOp.{StepOp}
 use Rattle.c_tree.specs.declared.expression.UnaryOp.{UnaryOp}
 use Rattle.c_tree.specs.declared.expression.UnaryOp.TheVariants as ones
 use Rattle.c_tree.specs.declared.types.IntegerType.{IntegerType}
-use Rattle.c_tree.specs.declared.types.IntegerType.TheVariants.{Char, Short, Int}
+use Rattle.c_tree.specs.declared.types.IntegerType.TheVariants.{Char, Short, Int, UnsignedInt}
 use Rattle.c_tree.specs.declared.types.ValueType.{ValueType}
 use Rattle.c_tree.specs.declared.types.ValueType.TheVariants.{Void, Integer, Pointer}
+use Rattle.c_tree.specs.Operators.{common, promoted, numbers_type, numbers_result, unary_type}
 use Rattle.c_tree.specs.Program as tree
 use Rattle.c_tree.specs.Program.{int, value_type, Expression, Constant, Start, Read, Address, Unary, Binary, And, Or}
 use Rattle.c_tree.specs.Program.{Conditional, Cast, Assign, Update, Step, Comma, Call, Putchar, Getchar, Exit, Place}
@@ -28,7 +29,7 @@ use Rattle.c_tree.specs.WellTyped.{CanUpdate, IsTyped, IsPlace, IsAssigned, IsCo
 use Rattle.c_typing.specs.Types.{same_integer}
 use Rattle.c_typing.specs.Checked.{fits}
 use Rattle.c_typing.specs.Constants.{is_null}
-use Rattle.c_typing.specs.Rows.{misfit, row_at, of_numbers, if_same, of_sum, of_difference, of_order}
+use Rattle.c_typing.specs.Rows.{misfit, row_at, of_numbers, of_shift, if_same, of_sum, of_difference, of_order}
 use Rattle.c_typing.specs.Rows.{of_equality, of_choice, is_scalar, can_assign, assigned, tested, selected, on_number}
 use Rattle.c_typing.specs.Rows.{dereferenced, address_of_place, place_named, address_row, unary_row, step_row, can_cast}
 use Rattle.c_typing.specs.Rows.{cast_row, types_of, operated, compared, of_conditions, joined, binary_row, element_of}
@@ -42,12 +43,19 @@ pub same_integer_is : (t u : IntegerType) → same_integer t u ≡ true → u �
 same_integer_is Char Char h = refl
 same_integer_is Char Short h = grind arith
 same_integer_is Char Int h = grind arith
+same_integer_is Char UnsignedInt h = grind arith
 same_integer_is Short Char h = grind arith
 same_integer_is Short Short h = refl
 same_integer_is Short Int h = grind arith
+same_integer_is Short UnsignedInt h = grind arith
 same_integer_is Int Char h = grind arith
 same_integer_is Int Short h = grind arith
 same_integer_is Int Int h = refl
+same_integer_is Int UnsignedInt h = grind arith
+same_integer_is UnsignedInt Char h = grind arith
+same_integer_is UnsignedInt Short h = grind arith
+same_integer_is UnsignedInt Int h = grind arith
+same_integer_is UnsignedInt UnsignedInt h = refl
 
 pub not_true : {P : Type 0} → false ≡ true → P
 not_true {P} e = grind arith
@@ -56,17 +64,14 @@ pub either_false : (a b : Bool) → (a || b) ≡ false → (a ≡ false) × (b �
 either_false true b h = grind arith
 either_false false b h = (refl, h)
 
+if_some_if : (b : Bool) (of : ValueType) (P : ValueType → Type 0) → (b ≡ true → P of)
+    → IfSome (if b then Some of else None) P
+if_some_if true of P h = h refl
+if_some_if false of P h = tt
+
 if_same_gives : (t u : IntegerType) (of : ValueType) (P : ValueType → Type 0) → (u ≡ t → P of)
     → IfSome (if_same t u of) P
-if_same_gives Char Char of P h = h refl
-if_same_gives Char Short of P h = tt
-if_same_gives Char Int of P h = tt
-if_same_gives Short Char of P h = tt
-if_same_gives Short Short of P h = h refl
-if_same_gives Short Int of P h = tt
-if_same_gives Int Char of P h = tt
-if_same_gives Int Short of P h = tt
-if_same_gives Int Int of P h = h refl
+if_same_gives t u of P h = if_some_if (same_integer t u) of P (λ e. h (same_integer_is t u e))
 
 pub if_some_on : {A : Type 0} (P Q : A → Type 0) (o : Option A) → IfSome o P → ((a : A) → P a → Q a) → IfSome o Q
 if_some_on P Q None h f = tt
@@ -77,16 +82,46 @@ if_some_map : {A B : Type 0} (f : A → B) (P : A → Type 0) (Q : B → Type 0)
 if_some_map f P Q None h g = tt
 if_some_map f P Q (Some a) h g = g a h
 
-numbers_give : (op : BinaryOp) (t u : ValueType) → IfSome (of_numbers t u) (BinaryGives op t u)
-numbers_give op Void Void = tt
-numbers_give op Void (Integer u) = tt
-numbers_give op Void (Pointer u) = tt
-numbers_give op (Integer t) Void = tt
-numbers_give op (Integer t) (Integer u) = refl
-numbers_give op (Integer t) (Pointer u) = tt
-numbers_give op (Pointer t) Void = tt
-numbers_give op (Pointer t) (Integer u) = tt
-numbers_give op (Pointer t) (Pointer u) = tt
+-- what holds of two numbers and of their common type holds of what the row gives
+on_numbers : (P : ValueType → ValueType → ValueType → Type 0)
+    → ((t u : IntegerType) → P (Integer t) (Integer u) (Integer (common t u)))
+    → (t u : ValueType) → IfSome (of_numbers t u) (P t u)
+on_numbers P h Void Void = tt
+on_numbers P h Void (Integer u) = tt
+on_numbers P h Void (Pointer u) = tt
+on_numbers P h (Integer t) Void = tt
+on_numbers P h (Integer t) (Integer u) = h t u
+on_numbers P h (Integer t) (Pointer u) = tt
+on_numbers P h (Pointer t) Void = tt
+on_numbers P h (Pointer t) (Integer u) = tt
+on_numbers P h (Pointer t) (Pointer u) = tt
+
+on_shift : (P : ValueType → ValueType → ValueType → Type 0)
+    → ((t u : IntegerType) → P (Integer t) (Integer u) (Integer (promoted t)))
+    → (t u : ValueType) → IfSome (of_shift t u) (P t u)
+on_shift P h Void Void = tt
+on_shift P h Void (Integer u) = tt
+on_shift P h Void (Pointer u) = tt
+on_shift P h (Integer t) Void = tt
+on_shift P h (Integer t) (Integer u) = h t u
+on_shift P h (Integer t) (Pointer u) = tt
+on_shift P h (Pointer t) Void = tt
+on_shift P h (Pointer t) (Integer u) = tt
+on_shift P h (Pointer t) (Pointer u) = tt
+
+-- an operator that works in the common type of two numbers, and gives a number of it
+abbrev InCommon : BinaryOp → Type 0
+InCommon op = (t u : IntegerType) → common t u ≡ numbers_result op (numbers_type op t u)
+
+numbers_give : (op : BinaryOp) → InCommon op → (t u : ValueType) → IfSome (of_numbers t u) (BinaryGives op t u)
+numbers_give op is = on_numbers (BinaryGives op) (λ t u. ap Integer (is t u))
+
+-- an operator that works in the promoted type of its left operand, and gives a number of it
+abbrev InPromoted : BinaryOp → Type 0
+InPromoted op = (t u : IntegerType) → promoted t ≡ numbers_result op (numbers_type op t u)
+
+shift_gives : (op : BinaryOp) → InPromoted op → (t u : ValueType) → IfSome (of_shift t u) (BinaryGives op t u)
+shift_gives op is = on_shift (BinaryGives op) (λ t u. ap Integer (is t u))
 
 pub sum_gives : (t u : ValueType) → IfSome (of_sum t u) (BinaryGives ops.Add t u)
 sum_gives Void Void = tt
@@ -111,36 +146,42 @@ difference_gives (Pointer t) (Integer u) = refl
 difference_gives (Pointer t) (Pointer u) =
     if_same_gives t u int (BinaryGives ops.Subtract (Pointer t) (Pointer u)) (λ e. (e, tt, refl))
 
-order_gives : (op : BinaryOp) → TakesPointers op → (t u : ValueType) → IfSome (of_order t u) (BinaryGives op t u)
-order_gives op takes Void Void = tt
-order_gives op takes Void (Integer u) = tt
-order_gives op takes Void (Pointer u) = tt
-order_gives op takes (Integer t) Void = tt
-order_gives op takes (Integer t) (Integer u) = refl
-order_gives op takes (Integer t) (Pointer u) = tt
-order_gives op takes (Pointer t) Void = tt
-order_gives op takes (Pointer t) (Integer u) = tt
-order_gives op takes (Pointer t) (Pointer u) =
+-- an operator that compares gives an `int`
+abbrev Compares : BinaryOp → Type 0
+Compares op = (within : IntegerType) → numbers_result op within ≡ Int
+
+order_gives : (op : BinaryOp) → TakesPointers op → Compares op → (t u : ValueType)
+    → IfSome (of_order t u) (BinaryGives op t u)
+order_gives op takes is Void Void = tt
+order_gives op takes is Void (Integer u) = tt
+order_gives op takes is Void (Pointer u) = tt
+order_gives op takes is (Integer t) Void = tt
+order_gives op takes is (Integer t) (Integer u) = ap Integer (sym (is (numbers_type op t u)))
+order_gives op takes is (Integer t) (Pointer u) = tt
+order_gives op takes is (Pointer t) Void = tt
+order_gives op takes is (Pointer t) (Integer u) = tt
+order_gives op takes is (Pointer t) (Pointer u) =
     if_same_gives t u int (BinaryGives op (Pointer t) (Pointer u)) (λ e. (e, takes, refl))
 
 -- an operator that compares a pointer with null
 abbrev ComparesNull : BinaryOp → Type 0
 ComparesNull op = ((t : IntegerType) → PointerNumberGives op t int) × ((t : IntegerType) → NumberPointerGives op t int)
 
-equality_gives : (op : BinaryOp) → TakesPointers op → ComparesNull op → (t : ValueType) (n : Bool) (u : ValueType)
-    (m : Bool) → IfSome (of_equality t n u m) (BinaryGives op t u)
-equality_gives op takes null Void n Void m = tt
-equality_gives op takes null Void n (Integer u) m = tt
-equality_gives op takes null Void n (Pointer u) m = tt
-equality_gives op takes null (Integer t) true Void m = tt
-equality_gives op takes null (Integer t) false Void m = tt
-equality_gives op takes null (Integer t) n (Integer u) m = refl
-equality_gives op takes null (Integer t) true (Pointer u) m = null.1 u
-equality_gives op takes null (Integer t) false (Pointer u) m = tt
-equality_gives op takes null (Pointer t) n Void m = tt
-equality_gives op takes null (Pointer t) n (Integer u) true = null.0 t
-equality_gives op takes null (Pointer t) n (Integer u) false = tt
-equality_gives op takes null (Pointer t) n (Pointer u) m =
+equality_gives : (op : BinaryOp) → TakesPointers op → Compares op → ComparesNull op → (t : ValueType) (n : Bool)
+    (u : ValueType) (m : Bool) → IfSome (of_equality t n u m) (BinaryGives op t u)
+equality_gives op takes is null Void n Void m = tt
+equality_gives op takes is null Void n (Integer u) m = tt
+equality_gives op takes is null Void n (Pointer u) m = tt
+equality_gives op takes is null (Integer t) true Void m = tt
+equality_gives op takes is null (Integer t) false Void m = tt
+equality_gives op takes is null (Integer t) n (Integer u) m =
+    ap Integer (sym (is (numbers_type op t u)))
+equality_gives op takes is null (Integer t) true (Pointer u) m = null.1 u
+equality_gives op takes is null (Integer t) false (Pointer u) m = tt
+equality_gives op takes is null (Pointer t) n Void m = tt
+equality_gives op takes is null (Pointer t) n (Integer u) true = null.0 t
+equality_gives op takes is null (Pointer t) n (Integer u) false = tt
+equality_gives op takes is null (Pointer t) n (Pointer u) m =
     if_some_map (λ of. int) (λ of. u ≡ t) (BinaryGives op (Pointer t) (Pointer u)) (if_same t u (Pointer t))
     (if_same_gives t u (Pointer t) (λ of. u ≡ t) (λ e. e)) (λ of e. (e, takes, refl))
 
@@ -194,15 +235,10 @@ abbrev Updates : (ValueType → ValueType → Option ValueType) → BinaryOp →
 Updates row op = (t u : ValueType) → IfSome (row t u) (λ of. can_assign t of false ≡ true → CanUpdate op t u)
 
 numbers_update : (op : BinaryOp) → IsAssignmentOp op → Updates of_numbers op
-numbers_update op is Void Void = tt
-numbers_update op is Void (Integer u) = tt
-numbers_update op is Void (Pointer u) = tt
-numbers_update op is (Integer t) Void = tt
-numbers_update op is (Integer t) (Integer u) = λ e. is
-numbers_update op is (Integer t) (Pointer u) = tt
-numbers_update op is (Pointer t) Void = tt
-numbers_update op is (Pointer t) (Integer u) = tt
-numbers_update op is (Pointer t) (Pointer u) = tt
+numbers_update op is = on_numbers (λ t u of. can_assign t of false ≡ true → CanUpdate op t u) (λ t u e. is)
+
+shift_updates : (op : BinaryOp) → IsAssignmentOp op → Updates of_shift op
+shift_updates op is = on_shift (λ t u of. can_assign t of false ≡ true → CanUpdate op t u) (λ t u e. is)
 
 sum_updates : Updates of_sum ops.Add
 sum_updates Void Void = tt
@@ -227,6 +263,10 @@ difference_updates (Pointer t) (Integer u) = λ e. tt
 difference_updates (Pointer t) (Pointer u) =
     if_same_gives t u int (λ of. can_assign (Pointer t) of false ≡ true → ⊥)
     (λ e z. not_true z)
+
+-- an operator that gives a number of the promoted type
+abbrev Promotes : UnaryOp → Type 0
+Promotes op = (t : IntegerType) → promoted t ≡ unary_type op t
 
 -- ---- rows, in a function of a program
 
@@ -273,15 +313,16 @@ module _ (w : Setting) (f : tree.Function) where
       → Sound w X IsSelected (selected (value_type e) at e)
   selected_sound X at e h = selected_by X (value_type e) at e (λ x i. (h x, i))
 
-  number_by : (X : Type 0) (op : UnaryOp) (at : Span) (t : ValueType) (e : Expression)
-      → (X → UnaryGives op t Int → Good (Unary Int op e)) → Sound w X Good (on_number op at t e)
-  number_by X op at Void e h = tt
-  number_by X op at (Integer t) e h = sound_fits w X Good (Unary Int op e) (λ x. h x refl)
-  number_by X op at (Pointer t) e h = tt
+  number_by : (X : Type 0) (op : UnaryOp) → Promotes op → (at : Span) (t : ValueType) (e : Expression)
+      → (X → (of : IntegerType) → UnaryGives op t of → Good (Unary of op e)) → Sound w X Good (on_number op at t e)
+  number_by X op is at Void e h = tt
+  number_by X op is at (Integer t) e h =
+      sound_fits w X Good (Unary (promoted t) op e) (λ x. h x (promoted t) (is t))
+  number_by X op is at (Pointer t) e h = tt
 
-  number_sound : (X : Type 0) (op : UnaryOp) (at : Span) (e : Expression) → (X → Good e)
+  number_sound : (X : Type 0) (op : UnaryOp) → Promotes op → (at : Span) (e : Expression) → (X → Good e)
       → Sound w X Good (on_number op at (value_type e) e)
-  number_sound X op at e h = number_by X op at (value_type e) e (λ x u. (h x, u))
+  number_sound X op is at e h = number_by X op is at (value_type e) e (λ x of u. (h x, u))
 
   target_by : (X : Type 0) (at : Span) (t : ValueType) (e : Expression) → (X → Good e) → value_type e ≡ t
       → Sound w X Good (dereferenced at t e)
@@ -342,9 +383,9 @@ module _ (w : Setting) (f : tree.Function) where
       → Sound w X Good (unary_row op at e)
   unary_sound X raw_unary.AddressOf at e h = address_sound X at (place_named e) (names_where X e h)
   unary_sound X raw_unary.Dereference at e h = target_by X at (value_type e) e h refl
-  unary_sound X raw_unary.Plus at e h = number_sound X ones.Plus at e h
-  unary_sound X raw_unary.Minus at e h = number_sound X ones.Minus at e h
-  unary_sound X raw_unary.Complement at e h = number_sound X ones.Complement at e h
+  unary_sound X raw_unary.Plus at e h = number_sound X ones.Plus (λ t. refl) at e h
+  unary_sound X raw_unary.Minus at e h = number_sound X ones.Minus (λ t. refl) at e h
+  unary_sound X raw_unary.Complement at e h = number_sound X ones.Complement (λ t. refl) at e h
   unary_sound X raw_unary.Not at e h =
       sound_choice X Good at (is_scalar (value_type e)) (value_type e ∷ []) (Unary Int ones.Not e)
       (λ x b. (h x, not_gives (value_type e) b))
@@ -365,13 +406,13 @@ module _ (w : Setting) (f : tree.Function) where
       (if_some_on (BinaryGives op (value_type a) (value_type b)) (λ of. X → Good (Binary of op a b))
       (row (value_type a) (value_type b)) (gives (value_type a) (value_type b)) (λ of g x. (h x, k x, g)))
 
-  compared_sound : (X : Type 0) (op : BinaryOp) → TakesPointers op → ComparesNull op → (at : Span) (a b : Expression)
-      → (X → Good a) → (X → Good b) → Sound w X Good (compared op at a b)
-  compared_sound X op takes null at a b h k =
+  compared_sound : (X : Type 0) (op : BinaryOp) → TakesPointers op → Compares op → ComparesNull op → (at : Span)
+      (a b : Expression) → (X → Good a) → (X → Good b) → Sound w X Good (compared op at a b)
+  compared_sound X op takes is null at a b h k =
       let o = of_equality (value_type a) (is_null a) (value_type b) (is_null b) in
       sound_row X at (types_of a b) o (λ of. Binary of op a b)
       (if_some_on (BinaryGives op (value_type a) (value_type b)) (λ of. X → Good (Binary of op a b)) o
-      (equality_gives op takes null (value_type a) (is_null a) (value_type b) (is_null b)) (λ of g x. (h x, k x, g)))
+      (equality_gives op takes is null (value_type a) (is_null a) (value_type b) (is_null b)) (λ of g x. (h x, k x, g)))
 
   joined_sound : (X : Type 0) (make : Expression → Expression → Expression) (at : Span) (a b : Expression)
       → (X → IsScalar (value_type a) × IsScalar (value_type b) → Good (make a b)) → Sound w X Good (joined make at a b)
@@ -382,23 +423,29 @@ module _ (w : Setting) (f : tree.Function) where
 
   pub binary_sound : (X : Type 0) (op : raw.BinaryOp) (at : Span) (a b : Expression) → (X → Good a) → (X → Good b)
       → Sound w X Good (binary_row op at a b)
-  binary_sound X raw_binary.Multiply = operated_sound X of_numbers ops.Multiply (numbers_give ops.Multiply)
-  binary_sound X raw_binary.Divide = operated_sound X of_numbers ops.Divide (numbers_give ops.Divide)
-  binary_sound X raw_binary.Remainder = operated_sound X of_numbers ops.Remainder (numbers_give ops.Remainder)
+  binary_sound X raw_binary.Multiply =
+      operated_sound X of_numbers ops.Multiply (numbers_give ops.Multiply (λ t u. refl))
+  binary_sound X raw_binary.Divide = operated_sound X of_numbers ops.Divide (numbers_give ops.Divide (λ t u. refl))
+  binary_sound X raw_binary.Remainder =
+      operated_sound X of_numbers ops.Remainder (numbers_give ops.Remainder (λ t u. refl))
   binary_sound X raw_binary.Add = operated_sound X of_sum ops.Add sum_gives
   binary_sound X raw_binary.Subtract = operated_sound X of_difference ops.Subtract difference_gives
-  binary_sound X raw_binary.ShiftLeft = operated_sound X of_numbers ops.ShiftLeft (numbers_give ops.ShiftLeft)
-  binary_sound X raw_binary.ShiftRight = operated_sound X of_numbers ops.ShiftRight (numbers_give ops.ShiftRight)
-  binary_sound X raw_binary.Less = operated_sound X of_order ops.Less (order_gives ops.Less tt)
-  binary_sound X raw_binary.Greater = operated_sound X of_order ops.Greater (order_gives ops.Greater tt)
-  binary_sound X raw_binary.LessEqual = operated_sound X of_order ops.LessOrEqual (order_gives ops.LessOrEqual tt)
+  binary_sound X raw_binary.ShiftLeft =
+      operated_sound X of_shift ops.ShiftLeft (shift_gives ops.ShiftLeft (λ t u. refl))
+  binary_sound X raw_binary.ShiftRight =
+      operated_sound X of_shift ops.ShiftRight (shift_gives ops.ShiftRight (λ t u. refl))
+  binary_sound X raw_binary.Less = operated_sound X of_order ops.Less (order_gives ops.Less tt (λ within. refl))
+  binary_sound X raw_binary.Greater =
+      operated_sound X of_order ops.Greater (order_gives ops.Greater tt (λ within. refl))
+  binary_sound X raw_binary.LessEqual =
+      operated_sound X of_order ops.LessOrEqual (order_gives ops.LessOrEqual tt (λ within. refl))
   binary_sound X raw_binary.GreaterEqual =
-      operated_sound X of_order ops.GreaterOrEqual (order_gives ops.GreaterOrEqual tt)
-  binary_sound X raw_binary.Equal = compared_sound X ops.Equal tt ((λ t. refl), (λ t. refl))
-  binary_sound X raw_binary.NotEqual = compared_sound X ops.NotEqual tt ((λ t. refl), (λ t. refl))
-  binary_sound X raw_binary.BitAnd = operated_sound X of_numbers ops.BitAnd (numbers_give ops.BitAnd)
-  binary_sound X raw_binary.BitXor = operated_sound X of_numbers ops.BitXor (numbers_give ops.BitXor)
-  binary_sound X raw_binary.BitOr = operated_sound X of_numbers ops.BitOr (numbers_give ops.BitOr)
+      operated_sound X of_order ops.GreaterOrEqual (order_gives ops.GreaterOrEqual tt (λ within. refl))
+  binary_sound X raw_binary.Equal = compared_sound X ops.Equal tt (λ within. refl) ((λ t. refl), (λ t. refl))
+  binary_sound X raw_binary.NotEqual = compared_sound X ops.NotEqual tt (λ within. refl) ((λ t. refl), (λ t. refl))
+  binary_sound X raw_binary.BitAnd = operated_sound X of_numbers ops.BitAnd (numbers_give ops.BitAnd (λ t u. refl))
+  binary_sound X raw_binary.BitXor = operated_sound X of_numbers ops.BitXor (numbers_give ops.BitXor (λ t u. refl))
+  binary_sound X raw_binary.BitOr = operated_sound X of_numbers ops.BitOr (numbers_give ops.BitOr (λ t u. refl))
   binary_sound X raw_binary.LogicalAnd = λ at a b h k. joined_sound X And at a b (λ x g. (h x, g.0, k x, g.1))
   binary_sound X raw_binary.LogicalOr = λ at a b h k. joined_sound X Or at a b (λ x g. (h x, g.0, k x, g.1))
   binary_sound X raw_binary.Comma = λ at a b h k. sound_fits w X Good (Comma a b) (λ x. (h x, k x))
@@ -467,8 +514,8 @@ module _ (w : Setting) (f : tree.Function) where
   to_place_sound X raw_assign.Remainder = update_sound X of_numbers ops.Remainder (numbers_update ops.Remainder tt)
   to_place_sound X raw_assign.Add = update_sound X of_sum ops.Add sum_updates
   to_place_sound X raw_assign.Subtract = update_sound X of_difference ops.Subtract difference_updates
-  to_place_sound X raw_assign.ShiftLeft = update_sound X of_numbers ops.ShiftLeft (numbers_update ops.ShiftLeft tt)
-  to_place_sound X raw_assign.ShiftRight = update_sound X of_numbers ops.ShiftRight (numbers_update ops.ShiftRight tt)
+  to_place_sound X raw_assign.ShiftLeft = update_sound X of_shift ops.ShiftLeft (shift_updates ops.ShiftLeft tt)
+  to_place_sound X raw_assign.ShiftRight = update_sound X of_shift ops.ShiftRight (shift_updates ops.ShiftRight tt)
   to_place_sound X raw_assign.BitAnd = update_sound X of_numbers ops.BitAnd (numbers_update ops.BitAnd tt)
   to_place_sound X raw_assign.BitXor = update_sound X of_numbers ops.BitXor (numbers_update ops.BitXor tt)
   to_place_sound X raw_assign.BitOr = update_sound X of_numbers ops.BitOr (numbers_update ops.BitOr tt)

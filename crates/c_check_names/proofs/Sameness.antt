@@ -6,9 +6,10 @@ use Rattle.std.proofs.lemmas.Bool.Decides.{Decides-eqb}
 use Rattle.std.proofs.lemmas.Bool.{and_parts, and_from}
 use Rattle.pcc_base.specs.declared.span.Span.{Span}
 use Rattle.c_tree.specs.declared.types.IntegerType.{IntegerType}
-use Rattle.c_tree.specs.declared.types.IntegerType.TheVariants.{Char, Short, Int}
+use Rattle.c_tree.specs.declared.types.IntegerType.TheVariants.{Char, Short, Int, UnsignedInt}
 use Rattle.c_tree.specs.declared.types.ValueType.{ValueType}
 use Rattle.c_tree.specs.declared.types.ValueType.TheVariants.{Void, Integer, Pointer}
+use Rattle.c_tree.specs.contracts.types.IntegerTypePartialEq.TheImpl.{ghosts as integers}
 use Rattle.c_tree.specs.contracts.types.ValueTypePartialEq.TheImpl.{ghosts}
 use Rattle.c_typing.specs.Library.{Entity, Library, Shared, OfFile, At, Putchar, Getchar, Exit, LibraryFunction}
 use Rattle.c_typing.specs.Library.{same_entity, same_function, same_name, same_place}
@@ -19,32 +20,34 @@ use Rattle.c_check_names.proofs.MeaningNames.{same_is, same_self}
 
 -- ---- the tests of the code
 
+integer_tested : (t u : IntegerType) → integers.eq t u ≡ same_integer t u
+integer_tested Char Char = refl
+integer_tested Char Short = refl
+integer_tested Char Int = refl
+integer_tested Char UnsignedInt = refl
+integer_tested Short Char = refl
+integer_tested Short Short = refl
+integer_tested Short Int = refl
+integer_tested Short UnsignedInt = refl
+integer_tested Int Char = refl
+integer_tested Int Short = refl
+integer_tested Int Int = refl
+integer_tested Int UnsignedInt = refl
+integer_tested UnsignedInt Char = refl
+integer_tested UnsignedInt Short = refl
+integer_tested UnsignedInt Int = refl
+integer_tested UnsignedInt UnsignedInt = refl
+
 pub value_tested : (t u : ValueType) → ghosts.eq t u ≡ same_value t u
 value_tested Void Void = refl
 value_tested Void (Integer u) = refl
 value_tested Void (Pointer u) = refl
 value_tested (Integer t) Void = refl
-value_tested (Integer Char) (Integer Char) = refl
-value_tested (Integer Char) (Integer Short) = refl
-value_tested (Integer Char) (Integer Int) = refl
-value_tested (Integer Short) (Integer Char) = refl
-value_tested (Integer Short) (Integer Short) = refl
-value_tested (Integer Short) (Integer Int) = refl
-value_tested (Integer Int) (Integer Char) = refl
-value_tested (Integer Int) (Integer Short) = refl
-value_tested (Integer Int) (Integer Int) = refl
+value_tested (Integer t) (Integer u) = integer_tested t u
 value_tested (Integer t) (Pointer u) = refl
 value_tested (Pointer t) Void = refl
 value_tested (Pointer t) (Integer u) = refl
-value_tested (Pointer Char) (Pointer Char) = refl
-value_tested (Pointer Char) (Pointer Short) = refl
-value_tested (Pointer Char) (Pointer Int) = refl
-value_tested (Pointer Short) (Pointer Char) = refl
-value_tested (Pointer Short) (Pointer Short) = refl
-value_tested (Pointer Short) (Pointer Int) = refl
-value_tested (Pointer Int) (Pointer Char) = refl
-value_tested (Pointer Int) (Pointer Short) = refl
-value_tested (Pointer Int) (Pointer Int) = refl
+value_tested (Pointer t) (Pointer u) = integer_tested t u
 
 pub values_tested : (ts us : List ValueType) → pointwise ghosts.eq ts us ≡ same_values ts us
 values_tested [] [] = refl
@@ -59,12 +62,19 @@ integer_is : (t u : IntegerType) → same_integer t u ≡ true → t ≡ u
 integer_is Char Char h = refl
 integer_is Char Short h = absurd (true≢false (sym h))
 integer_is Char Int h = absurd (true≢false (sym h))
+integer_is Char UnsignedInt h = absurd (true≢false (sym h))
 integer_is Short Char h = absurd (true≢false (sym h))
 integer_is Short Short h = refl
 integer_is Short Int h = absurd (true≢false (sym h))
+integer_is Short UnsignedInt h = absurd (true≢false (sym h))
 integer_is Int Char h = absurd (true≢false (sym h))
 integer_is Int Short h = absurd (true≢false (sym h))
 integer_is Int Int h = refl
+integer_is Int UnsignedInt h = absurd (true≢false (sym h))
+integer_is UnsignedInt Char h = absurd (true≢false (sym h))
+integer_is UnsignedInt Short h = absurd (true≢false (sym h))
+integer_is UnsignedInt Int h = absurd (true≢false (sym h))
+integer_is UnsignedInt UnsignedInt h = refl
 
 value_is : (t u : ValueType) → same_value t u ≡ true → t ≡ u
 value_is Void Void h = refl
@@ -110,6 +120,7 @@ integer_self : (t : IntegerType) → same_integer t t ≡ true
 integer_self Char = refl
 integer_self Short = refl
 integer_self Int = refl
+integer_self UnsignedInt = refl
 
 value_self : (t : ValueType) → same_value t t ≡ true
 value_self Void = refl

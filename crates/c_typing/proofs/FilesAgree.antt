@@ -31,7 +31,7 @@ use Rattle.c_typing.specs.Files.{typed_units}
 use Rattle.c_typing.specs.Typed.{judged}
 use Rattle.c_typing.specs.Laws.{NumbersChangeNothing}
 use Rattle.c_typing.proofs.Agree.{Agree, Any, Same, faults_agree, notes_agree, values_agree, agree_if_fits, agree_also}
-use Rattle.c_typing.proofs.Agree.{agree_both, same_itself, agree_any}
+use Rattle.c_typing.proofs.Agree.{agree_both, same_itself}
 use Rattle.c_typing.proofs.ExpressionsAgree.{renumbered}
 use Rattle.c_typing.proofs.DeclarationsAgree.{declared_agree, with_parameters_same, parameters_agree, contents_agree}
 use Rattle.c_typing.proofs.DeclarationsAgree.{function_agree, stored_agree}

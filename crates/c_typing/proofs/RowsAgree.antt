@@ -19,14 +19,15 @@ use Rattle.c_tree.specs.declared.expression.UnaryOp.TheVariants as ones
 use Rattle.c_tree.specs.declared.types.IntegerType.TheVariants.{Int}
 use Rattle.c_tree.specs.declared.types.ValueType.{ValueType}
 use Rattle.c_tree.specs.declared.types.ValueType.TheVariants.{Void, Integer, Pointer}
+use Rattle.c_tree.specs.Operators.{promoted}
 use Rattle.c_tree.specs.Program.{value_type, Expression, Read, Unary, Binary, And, Or}
 use Rattle.c_tree.specs.Program.{Conditional, Cast, Assign, Update, Comma, Place, LocalPlace, StaticPlace}
 use Rattle.c_tree.specs.Program.{Target, Element}
 use Rattle.c_typing.specs.Checked.{Checked, Fits, Fails, fits, faults_in, notes_in}
 use Rattle.c_typing.specs.Constants.{constant_value, is_zero, is_null}
 use Rattle.c_typing.specs.Faults.{fault}
-use Rattle.c_typing.specs.Rows.{misfit, row_at, of_numbers, of_sum, of_difference, of_order, of_equality, of_choice}
-use Rattle.c_typing.specs.Rows.{is_scalar, can_assign, assigned, tested, selected, on_number, dereferenced}
+use Rattle.c_typing.specs.Rows.{misfit, row_at, of_numbers, of_shift, of_sum, of_difference, of_order, of_equality}
+use Rattle.c_typing.specs.Rows.{of_choice, is_scalar, can_assign, assigned, tested, selected, on_number, dereferenced}
 use Rattle.c_typing.specs.Rows.{address_of_place, place_named, address_row, unary_row, step_row, can_cast, cast_row}
 use Rattle.c_typing.specs.Rows.{types_of, operated, compared, of_conditions, joined, binary_row, element_of, index_row}
 use Rattle.c_typing.specs.Rows.{conditional_row, assign_row, updated, update_row, to_place_row, assignment_row}
@@ -127,7 +128,7 @@ selected_agree at x y h =
 number_same : (op : UnaryOp) (at : Span) (t : ValueType) (x y : Expression) → Twins x y
     → Agree Twins (on_number op at t x) (on_number op at t y)
 number_same op at Void x y h = (refl, refl)
-number_same op at (Integer t) x y h = (ap (Unary Int op) h, refl)
+number_same op at (Integer t) x y h = (ap (Unary (promoted t) op) h, refl)
 number_same op at (Pointer t) x y h = (refl, refl)
 
 number_agree : (op : UnaryOp) (at : Span) (x y : Expression) → Twins x y
@@ -271,8 +272,8 @@ binary_agree raw_binary.Divide = operated_agree of_numbers ops.Divide
 binary_agree raw_binary.Remainder = operated_agree of_numbers ops.Remainder
 binary_agree raw_binary.Add = operated_agree of_sum ops.Add
 binary_agree raw_binary.Subtract = operated_agree of_difference ops.Subtract
-binary_agree raw_binary.ShiftLeft = operated_agree of_numbers ops.ShiftLeft
-binary_agree raw_binary.ShiftRight = operated_agree of_numbers ops.ShiftRight
+binary_agree raw_binary.ShiftLeft = operated_agree of_shift ops.ShiftLeft
+binary_agree raw_binary.ShiftRight = operated_agree of_shift ops.ShiftRight
 binary_agree raw_binary.Less = operated_agree of_order ops.Less
 binary_agree raw_binary.Greater = operated_agree of_order ops.Greater
 binary_agree raw_binary.LessEqual = operated_agree of_order ops.LessOrEqual
@@ -355,8 +356,8 @@ to_place_agree raw_assign.Divide = update_agree of_numbers ops.Divide
 to_place_agree raw_assign.Remainder = update_agree of_numbers ops.Remainder
 to_place_agree raw_assign.Add = update_agree of_sum ops.Add
 to_place_agree raw_assign.Subtract = update_agree of_difference ops.Subtract
-to_place_agree raw_assign.ShiftLeft = update_agree of_numbers ops.ShiftLeft
-to_place_agree raw_assign.ShiftRight = update_agree of_numbers ops.ShiftRight
+to_place_agree raw_assign.ShiftLeft = update_agree of_shift ops.ShiftLeft
+to_place_agree raw_assign.ShiftRight = update_agree of_shift ops.ShiftRight
 to_place_agree raw_assign.BitAnd = update_agree of_numbers ops.BitAnd
 to_place_agree raw_assign.BitXor = update_agree of_numbers ops.BitXor
 to_place_agree raw_assign.BitOr = update_agree of_numbers ops.BitOr

@@ -1,13 +1,15 @@
 //! Laws of the definitions: each function's contract is one, and the function does nothing.
 
-ghost use Rattle.std.specs.Prelude.{◌≡◌, [], ◌∷◌, pos, Some, None};
+ghost use Rattle.std.specs.Prelude.{◌≡◌, [], ◌∷◌, pos, false, Some, None};
 ghost use Rattle.pcc_base.specs.declared.fault.FaultKind.TheVariants as kinds;
 ghost use Rattle.pcc_base.specs.declared.refusal.Limit.TheVariants.{Frame};
-ghost use Rattle.c_tree.specs.declared.types.IntegerType.TheVariants.{Int, Char, Short};
+ghost use Rattle.c_tree.specs.declared.types.IntegerType.TheVariants.{Int, Char, Short, UnsignedInt};
+ghost use Rattle.c_tree.specs.declared.types.ValueType.TheVariants.{Integer, Pointer};
 ghost use Rattle.c_tree.specs.Worked.{converts_200, two_functions};
 ghost use Rattle.c_typing.specs.Faults.{fault};
 ghost use Rattle.c_typing.specs.Laws.{LeastIsLeast, LeastOfBoth, NumbersChangeNothing};
 ghost use Rattle.c_typing.specs.Laws.{OneTypedProgram, StatementsCountUp, TypedWithoutFault};
+ghost use Rattle.c_typing.specs.Rows.{of_choice, of_difference, of_numbers, of_order, of_shift, of_sum};
 ghost use Rattle.c_typing.specs.Typed.{elaborated, fault_of, limit_found, objects_found};
 ghost use Rattle.c_typing.specs.Worked.{
   array_without_elements,
@@ -66,6 +68,19 @@ pub fn worked_declarators()
     ensures elements { fault_of pointers_without_size (at 0 10) ≡ Some (fault kinds.PointerUse (at 0 6)) }
     ensures result { fault_of pointer_to_return (at 0 16) ≡ Some (fault kinds.PointerUse (at 0 6)) }
     ensures size { fault_of array_without_elements (at 0 17) ≡ Some (fault kinds.ArraySize (at 0 13)) }
+{}
+
+/// The rows give of operands without a sign the types that a reader expects of C99 6.3.1.8 and 6.5.5 to 6.5.15: the
+/// common type of two numbers, for a shift that of its left operand alone, and an `int` where numbers are compared.
+pub fn worked_rows()
+    ensures product { of_numbers (Integer Char) (Integer UnsignedInt) ≡ Some (Integer UnsignedInt) }
+    ensures sum { of_sum (Integer UnsignedInt) (Integer Int) ≡ Some (Integer UnsignedInt) }
+    ensures difference { of_difference (Integer Short) (Integer Char) ≡ Some (Integer Int) }
+    ensures moved { of_sum (Integer UnsignedInt) (Pointer UnsignedInt) ≡ Some (Pointer UnsignedInt) }
+    ensures apart { of_difference (Pointer UnsignedInt) (Pointer Int) ≡ None }
+    ensures shift { of_shift (Integer Short) (Integer UnsignedInt) ≡ Some (Integer Int) }
+    ensures order { of_order (Integer UnsignedInt) (Integer UnsignedInt) ≡ Some (Integer Int) }
+    ensures choice { of_choice (Integer Int) false (Integer UnsignedInt) false ≡ Some (Integer UnsignedInt) }
 {}
 
 /// Small files have no fault where a reader expects none: a name that is shadowed, an object that is declared

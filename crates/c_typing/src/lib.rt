@@ -2,12 +2,12 @@
 //!
 //! `specs/Typed.antt` has `Typed`, `fault_of` and `limit_of`; the files that it cites judge each construct by its
 //! parts.
-//! `worked_faults`, `worked_declarators`, `worked_programs` and `worked_trees` read them on small files.
+//! `worked_faults`, `worked_declarators`, `worked_programs`, `worked_rows` and `worked_trees` read them on small files.
 #![tactic(auto)]
 
 mod laws;
 
 pub use laws::{
     least_fault, numbers_change_nothing, one_typed_program, statements_count_up,
-    worked_declarators, worked_faults, worked_programs, worked_trees,
+    worked_declarators, worked_faults, worked_programs, worked_rows, worked_trees,
 };

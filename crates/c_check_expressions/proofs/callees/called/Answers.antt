@@ -1,4 +1,4 @@
-use Rattle.std.proofs.Common.{rules, ◌≡◌, ◌∙◌, [], Bor}
+use Rattle.std.proofs.Common.{rules, ◌≡◌, [], Bor}
 use Rattle.std.specs.Prelude.{Option, option_map}
 use Rattle.c_check_names.specs.Views.{meaning_of}
 use Rattle.c_check_names.specs.declared.meaning.Meaning.{Meaning as Shown}
