@@ -200,7 +200,7 @@ module _ (R : Room) where
         );
         value = binary-part R (Pointer element) Add a b
             (subst (λ (s : ValueType). LinesGive Add s b.of (Pointer element)) (sym e)
-            (lines-give Add _ b.of (Pointer element) gives)) h h';
+            (lines-give Add (Pointer t) b.of (Pointer element) gives)) h h';
         pointer = (element, refl);
         some = let s = h.some in omega (arith, s);
       }
@@ -223,7 +223,7 @@ module _ (R : Room) where
         spot = λ stays level low. (temp R level ForArray low, temp R level ForNumber low);
         value = binary-part R (Pointer element) Add a b
             (subst (λ (s : ValueType). LinesGive Add s b.of (Pointer element)) (sym e)
-            (lines-give Add _ b.of (Pointer element) gives)) h h';
+            (lines-give Add (Integer t) b.of (Pointer element) gives)) h h';
         pointer = (element, refl);
         some = let s = h.some in omega (arith, s);
       }
@@ -584,6 +584,7 @@ module _ (R : Room) where
       own-none (Integer Char) k = refl
       own-none (Integer Short) k = refl
       own-none (Integer Int) k = refl
+      own-none (Integer UnsignedInt) k = refl
       own-none (Pointer t) k = refl
   step-part of operator (AtObject o) scalar (t, e) =
       subst (λ (s : ValueType). FitsPart R (step_part c s operator (AtObject o))) e
