@@ -2,7 +2,7 @@
 use Rattle.c_eval_laws.specs.Bounds.{state_of}
 use Rattle.c_tree.specs.Evaluation.{evaluate}
 use Rattle.c_tree.specs.Operators.{common, is_true, promoted, unary_value}
-use Rattle.c_tree.specs.Program.{Function, int}
+use Rattle.c_tree.specs.Program.{Function}
 use Rattle.c_tree.specs.Store as source
 use Rattle.c_tree.specs.Store.{Ends, Evaluated, Gives, Held, HoldsNumber, HoldsPointer, and_then}
 use Rattle.c_tree.specs.declared.expression.UnaryOp.TheVariants.{Plus}

@@ -6,7 +6,7 @@ use Rattle.lower_laws.specs.ExpressionsLaws.{AreKinds, AreNumbers, IsKind}
 use Rattle.lower_laws.proofs.Calling.{number-calls_lower}
 use Rattle.lower_laws.proofs.ExpressionPassing.{all-passed_int, numbers-pass}
 use Rattle.std.specs.Prelude.{IsSomeAnd}
-use Rattle.std.proofs.Common.{Option, ℕ, List, [], ◌∷◌, map, suc, arith, ◌≡◌, refl, sym, ap, ◌∙◌, subst}
+use Rattle.std.proofs.Common.{Option, ℕ, List, [], ◌∷◌, map, suc, arith, ◌≡◌, refl, sym, ◌∙◌, subst}
 use Rattle.lower_lines.specs.Parts.{Part}
 use Rattle.std.specs.Prelude.{slice_get}
 use Rattle.c_tree.specs.declared.expression.BinaryOp.{BinaryOp}
@@ -20,7 +20,7 @@ use Rattle.c_tree.specs.Operators.{common, numbers_result, numbers_type, unary_t
 use Rattle.c_tree.specs.declared.types.ValueType.{ValueType}
 use Rattle.c_tree.specs.declared.types.ValueType.TheVariants.{Void, Integer, Pointer}
 use Rattle.c_tree.specs.Evaluation.{evaluate}
-use Rattle.c_tree.specs.Program.{int, value_type, Expression, Constant, Start, Read, Address, Unary, Binary, And, Or}
+use Rattle.c_tree.specs.Program.{value_type, Expression, Constant, Start, Read, Address, Unary, Binary, And, Or}
 use Rattle.c_tree.specs.Program.{Conditional, Cast, Assign, Update, Step, Comma, Call, Putchar, Getchar, Exit, Place}
 use Rattle.c_tree.specs.Program.{LocalPlace, StaticPlace, Target, Element}
 use Rattle.c_tree.specs.Store.{Gives, held}
