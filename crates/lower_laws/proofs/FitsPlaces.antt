@@ -438,7 +438,8 @@ module _ (R : Room) where
               fit-then R (x.lines (block + to.blocks) (suc level)) _
                   (operand-fit R true a h' (block + to.blocks) (suc level) (omega (arith, room)) (omega (arith, more)))
                   (fit-then R
-                  (computing c level within operator (new_value c level) (old_value c level) (x.spot (suc level)).number) _
+                  (computing c level within operator (new_value c level) (old_value c level)
+                  (x.spot (suc level)).number) _
                   (computing-fit R level within operator (new_value c level) (old_value c level)
                   (x.spot (suc level)).number low new old n) (
                     ((at.0, (at.1, (new, tt))), tt),

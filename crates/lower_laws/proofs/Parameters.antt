@@ -12,7 +12,7 @@ use Rattle.c_tree.specs.declared.types.IntegerType.TheVariants.{Char, Short, Int
 use Rattle.c_tree.specs.declared.types.ValueType.{ValueType}
 use Rattle.c_tree.specs.declared.types.ValueType.TheVariants.{Void, Integer, Pointer}
 use Rattle.c_tree.specs.Evaluation.{type_of}
-use Rattle.c_tree.specs.Program.{Function, Local, Program}
+use Rattle.c_tree.specs.Program.{Function, Local}
 use Rattle.c_tree.specs.Store as source
 use Rattle.c_tree.specs.Store.{Held, HoldsNumber, HoldsPointer, in_type, with_local}
 use Rattle.c_tree.specs.WellTyped.{IsScalar}
@@ -24,7 +24,7 @@ use Rattle.lower_lines.specs.Expressions.{words_of}
 use Rattle.lower_lines.specs.Following.{Comes, IsSite, Site, Stand, behind, context_of}
 use Rattle.lower_lines.specs.Lines.{Line, Emit}
 use Rattle.lower_lines.specs.Programs.{parameter_of, parameters_lines, words_in}
-use Rattle.lower_lines.specs.Relation.{HoldsAt, IsOf, ShowCalls, Shows, array_value}
+use Rattle.lower_lines.specs.Relation.{HoldsAt, IsOf, Shows, array_value}
 use Rattle.lower_lines.specs.Shown.{first_variable, local_widths}
 use Rattle.lower_lines.specs.Variables.{ForNumber, Spot, levels_of, levels_widths, local_spot, local_variables}
 use Rattle.lower_lines.specs.Variables.{temporary, typed_spot, variable_widths}

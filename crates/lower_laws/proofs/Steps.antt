@@ -9,8 +9,7 @@ use Rattle.c_tree.specs.declared.types.IntegerType.TheVariants.{Char, Short, Int
 use Rattle.c_tree.specs.declared.types.ValueType.{ValueType}
 use Rattle.c_tree.specs.declared.types.ValueType.TheVariants.{Void, Integer, Pointer}
 use Rattle.c_tree.specs.Operators.{step_op, step_type}
-use Rattle.c_tree.specs.Program.{int}
-use Rattle.c_tree.specs.WellTyped.{CanUpdate, IsScalar}
+use Rattle.c_tree.specs.WellTyped.{IsScalar}
 use Rattle.flow_graph.specs.declared.op.Op.TheVariants as op
 use Rattle.flow_graph.specs.Graphs.{IsIn}
 use Rattle.lower_lines.specs.Expressions.{Addressed, AtAddress, AtLocal, AtObject, Located, local_part}
