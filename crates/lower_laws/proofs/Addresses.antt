@@ -208,7 +208,7 @@ module _ (c : Context) (D : List ℕ) (low-known : (v : ℕ) → IsIn v D → v 
             };
         value = binary-part c D low-known (Pointer element) Add a b
             (subst (λ (s : ValueType). LinesGive Add s b.of (Pointer element)) (sym e)
-            (lines-give Add _ b.of (Pointer element) gives)) ha hb;
+            (lines-give Add (Pointer t) b.of (Pointer element) gives)) ha hb;
         pointer = (element, refl);
       }
   element-address element (Integer t) a b e gives ha hb =
@@ -237,7 +237,7 @@ module _ (c : Context) (D : List ℕ) (low-known : (v : ℕ) → IsIn v D → v 
             };
         value = binary-part c D low-known (Pointer element) Add a b
             (subst (λ (s : ValueType). LinesGive Add s b.of (Pointer element)) (sym e)
-            (lines-give Add _ b.of (Pointer element) gives)) ha hb;
+            (lines-give Add (Integer t) b.of (Pointer element) gives)) ha hb;
         pointer = (element, refl);
       }
   element-address element Void a b e gives ha hb = absurd gives
@@ -301,6 +301,7 @@ module _ (c : Context) (D : List ℕ) (low-known : (v : ℕ) → IsIn v D → v 
       same-blocks (Integer Char) (Tests holds fails) = refl
       same-blocks (Integer Short) w = refl
       same-blocks (Integer Int) w = refl
+      same-blocks (Integer UnsignedInt) w = refl
       same-blocks (Pointer t) w = refl
 
       read : (w : Wanted) → LowTarget c w of

@@ -97,7 +97,8 @@ of-sum S a b t p same of lowers =
     (subst (λ (part : Part). Lowers S part (evaluate S.calls (Address t (Element t a b)))) (sym same)
     (lowers-again S (part_of (context_of S) (Binary (Pointer t) Add a b)) t
     (evaluate S.calls (Binary (Pointer t) Add a b)) (evaluate S.calls (Address t (Element t a b))) refl
-    (λ s. first-same (working_type Add (value_type a) (value_type b)) (evaluate S.calls a s) (evaluate S.calls b)) refl refl lowers))
+    (λ s. first-same (working_type Add (value_type a) (value_type b)) (evaluate S.calls a s) (evaluate S.calls b)) refl
+    refl lowers))
 
 pub indexes-addressed : IndexesAreAddressed
 indexes-addressed S site a b t la of u lb of' =

@@ -304,7 +304,8 @@ module _ (c : Context) where
 
   both : (block level : ℕ) (w : Wanted) (operator : BinaryOp) (x y : Spot) (S : List ℕ)
       → Within (x.array ∷ x.number ∷ []) S → Within (y.array ∷ y.number ∷ []) S → AllFree level S → LowTarget c w int
-      → Settled c block 0 w S (Emit (op.Same x.array y.array) ∷ on_numbers c block level w Int operator x.number y.number)
+      → Settled c block 0 w S
+      (Emit (op.Same x.array y.array) ∷ on_numbers c block level w Int operator x.number y.number)
       (reached c level w int S)
   both block level w operator x y S h k free low = record {
     sets = [];

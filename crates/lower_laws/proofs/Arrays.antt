@@ -20,7 +20,7 @@ use Rattle.c_tree.specs.Store.{call_of_depth, arrays_in}
 use Rattle.c_tree.specs.WellTyped.{CanAssign, IsAssigned}
 use Rattle.c_eval_laws.proofs.Agreeing.{trees_keep}
 use Rattle.flow_graph.specs.declared.op.Op.TheVariants as op
-use Rattle.flow_graph.specs.Meaning.{given, onward as moves_on, stored}
+use Rattle.flow_graph.specs.Meaning.{given, onward as moves_on}
 use Rattle.flow_graph.specs.States as graph
 use Rattle.flow_graph.specs.States.{array_at, array_from, depth_of, element_at, number_at, number_of, value_at}
 use Rattle.flow_graph.specs.States.{with_element, with_elements, with_value}

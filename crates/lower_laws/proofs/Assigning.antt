@@ -291,7 +291,8 @@ assigned-lowers S site k l Int e of a run u la of' one falls =
 assigned-lowers S site k l UnsignedInt e of a run u la of' one falls =
     compound-lowers S (assigned_local (context_of S) (Integer UnsignedInt) k a) _ refl refl
     (λ older block level wanted before s g stands room may b.
-    wide-fits S site older k l UnsignedInt e of a run u la of' one falls block level wanted before s g tt stands room may b)
+    wide-fits S site older k l UnsignedInt e of a run u la of' one falls block level wanted before s g tt stands room
+    may b)
 
 pub assigns-lower : AssignsLower
 assigns-lower S site k l w there of e u lowers of' =

@@ -214,8 +214,8 @@ module _ (S : Site) (site : IsSite S) (older : List Function) (level x y : ℕ) 
     (may : MayWant S wanted int) (own : g.current.function ≡ S.number) where
   second-fits : (first : Held) (r : Evaluated Held)
       → SecondStands S (S.function ∷ older) before xs level x y first s g r
-      → Fits S (S.function ∷ older) before (xs ++ on_numbers (context_of S) block level wanted within operator x y) level
-      wanted int s g (and_then r (λ second u. computed (binary_value within operator first second) u))
+      → Fits S (S.function ∷ older) before (xs ++ on_numbers (context_of S) block level wanted within operator x y)
+      level wanted int s g (and_then r (λ second u. computed (binary_value within operator first second) u))
   second-fits first (Ends end u) ends = (ends, tt)
   second-fits first (Gives second u) (h, us, m, n, is, is', shows, keeps, seen, at_x, at_y, goes) =
       subst (λ (v : Held). Fits S (S.function ∷ older) before
@@ -235,8 +235,8 @@ module _ (S : Site) (site : IsSite S) (older : List Function) (level x y : ℕ) 
 
   both-fit : (run : source.State → Evaluated Held) (r : Evaluated Held)
       → BothStand S (S.function ∷ older) before xs level x y s g r run
-      → Fits S (S.function ∷ older) before (xs ++ on_numbers (context_of S) block level wanted within operator x y) level
-      wanted int s g
+      → Fits S (S.function ∷ older) before (xs ++ on_numbers (context_of S) block level wanted within operator x y)
+      level wanted int s g
       (and_then r (λ first t. and_then (run t) (λ second u. computed (binary_value within operator first second) u)))
   both-fit run (Ends end t) ends = (ends, tt)
   both-fit run (Gives first t) both = second-fits first (run t) both
@@ -352,8 +352,8 @@ works-in operator p q t u is is' =
 
 pub binaries-lower : BinariesLower
 binaries-lower S site of operator a b t u ta tb la at lb bt =
-    retyped-lowers S (binary_part (context_of S) int operator (part_of (context_of S) a) (part_of (context_of S) b)) _ Int
-    of refl refl
+    retyped-lowers S (binary_part (context_of S) int operator (part_of (context_of S) a) (part_of (context_of S) b)) _
+    Int of refl refl
     (subst (λ (w : IntegerType). Lowers S
     (binary_part (context_of S) int operator (part_of (context_of S) a) (part_of (context_of S) b))
     (after_both w operator (evaluate S.calls a) (evaluate S.calls b)))

@@ -276,8 +276,8 @@ module _ (S : Site) (a b : Part) (run run' : source.State → Evaluated Held) (l
 -- whatever type the operator works in.
 abbrev pub Applies : Site → ValueType → BinaryOp → ValueType → ValueType → Type 0
 Applies S of operator p q =
-    (within : IntegerType) (older : List Function) (block level : ℕ) (wanted : Wanted) (before : List Line) (x y : Spot) (v v' : Held)
-    (z : source.State) (i : graph.State)
+    (within : IntegerType) (older : List Function) (block level : ℕ) (wanted : Wanted) (before : List Line) (x y : Spot)
+    (v v' : Held) (z : source.State) (i : graph.State)
     → Stand S before (applied (context_of S) block level wanted operator p q x y) → level < levels_of S.function
     → MayWant S wanted of → Begins S (S.function ∷ older) z i → Placed S level p x → Placed S (suc level) q y
     → HoldsAt i.current.variables p x v → HoldsAt i.current.variables q y v'
@@ -316,7 +316,8 @@ pub operator-lowers : (S : Site) (of : ValueType) (within : IntegerType) (operat
     → b.of ≡ q → p ≢ Void → q ≢ Void → Falls run → Falls run' → Applies S of operator p q
     → Lowers S (binary_part (context_of S) of operator a b) (after_both within operator run run')
 operator-lowers S of within operator a b run run' p q la is lb is' scalar scalar' falls falls' applies =
-    applies-lower S of within operator a b run run' la (λ e. scalar (sym is ∙ e)) lb (λ e. scalar' (sym is' ∙ e)) falls falls'
+    applies-lower S of within operator a b run run' la (λ e. scalar (sym is ∙ e)) lb (λ e. scalar' (sym is' ∙ e)) falls
+    falls'
     (subst (λ (m : ValueType). Applies S of operator m b.of) (sym is)
     (subst (λ (n : ValueType). Applies S of operator p n) (sym is') applies))
 

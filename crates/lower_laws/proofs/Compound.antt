@@ -380,7 +380,8 @@ module _ (c : Context) (D : List ℕ) (low-known : (v : ℕ) → IsIn v D → v 
   turned-alike (Integer Int) a turns =
       let (u, e) = integer-turned Int a.of turns in subst (λ (t : ValueType). Alike t int) (sym e) tt
   turned-alike (Integer UnsignedInt) a turns =
-      let (u, e) = integer-turned UnsignedInt a.of turns in subst (λ (t : ValueType). Alike t int) (sym e) tt
+      let (u, e) = integer-turned UnsignedInt a.of turns in
+      subst (λ (t : ValueType). Alike t (Integer UnsignedInt)) (sym e) tt
   turned-alike (Pointer t) a turns = by a.of refl
     where
       by : (of : ValueType) → a.of ≡ of → Alike (as_pointer c t of a).of (Pointer t)

@@ -303,6 +303,8 @@ module _ (S : Site) (site : IsSite S) (older : List Function) (level x y : ℕ) 
   computing-gets within GreaterOrEqual here = set-gets within GreaterOrEqual (order_in within Ge order.Ge) refl here
   computing-gets within Equal here = set-gets within Equal (WithSigns Eq) refl here
   computing-gets within NotEqual here = set-gets within NotEqual (WithSigns Ne) refl here
-  computing-gets within BitAnd here = plain-gets (op.And to x y) (int_bit_and w32) refl refl refl (λ program u. refl) here
-  computing-gets within BitXor here = plain-gets (op.Xor to x y) (int_bit_xor w32) refl refl refl (λ program u. refl) here
+  computing-gets within BitAnd here = plain-gets (op.And to x y) (int_bit_and w32) refl refl refl
+      (λ program u. refl) here
+  computing-gets within BitXor here = plain-gets (op.Xor to x y) (int_bit_xor w32) refl refl refl
+      (λ program u. refl) here
   computing-gets within BitOr here = plain-gets (op.Or to x y) (int_bit_or w32) refl refl refl (λ program u. refl) here

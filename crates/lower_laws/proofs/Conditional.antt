@@ -2,7 +2,7 @@
 use Rattle.c_eval_laws.specs.Bounds.{state_of}
 use Rattle.c_tree.specs.Evaluation.{evaluate}
 use Rattle.c_tree.specs.Operators.{common, is_true, promoted, unary_value}
-use Rattle.c_tree.specs.Program.{Function, int}
+use Rattle.c_tree.specs.Program.{Function}
 use Rattle.c_tree.specs.Store as source
 use Rattle.c_tree.specs.Store.{Ends, Evaluated, Gives, Held, HoldsNumber, HoldsPointer, and_then}
 use Rattle.c_tree.specs.declared.expression.UnaryOp.TheVariants.{Plus}
@@ -363,8 +363,8 @@ pluses-lower S site e u lowers of =
     (λ s. plus-same (promoted u) (evaluate S.calls e s))
     (compound-lowers S (unary_part (context_of S) (promoted u) Plus (part_of (context_of S) e)) _ refl refl
     (λ older block level wanted before s g stands room may b.
-    kept-fits S older (promoted u) (promoted-all u) (part_of (context_of S) e) (evaluate S.calls e) u lowers of block level
-    wanted before s g stands room may b))
+    kept-fits S older (promoted u) (promoted-all u) (part_of (context_of S) e) (evaluate S.calls e) u lowers of block
+    level wanted before s g stands room may b))
 
 -- ---- a cast to void
 

@@ -1,25 +1,24 @@
 -- Lines behind the lines of a part, and conversions between integer types.
-use Rattle.std.proofs.Common.{◌≡◌, ◌≢◌, ℕ, ◌+◌, ◌*◌, ◌<◌, ◌≤◌, true, ℤ, List, [], ◌∷◌, ◌++◌}
-use Rattle.std.proofs.Common.{Option, Some, refl, sym, ap, ◌∙◌, subst, arith}
+use Rattle.std.proofs.Common.{◌≡◌, ℕ, ◌+◌, ◌*◌, ◌<◌, ◌≤◌, true, ℤ, List, [], ◌∷◌, ◌++◌}
+use Rattle.std.proofs.Common.{Some, refl, sym, ap, ◌∙◌, subst, arith}
 use Rattle.std.specs.Int.{w8, w16, int_wrap}
-use Rattle.std.specs.Prelude.{slice_get, IsSomeAnd}
 use Rattle.pcc_base.specs.Outcome.{Number}
 use Rattle.pcc_base.specs.declared.run.Width.TheVariants.{One}
 use Rattle.c_eval_laws.specs.Bounds.{state_of}
 use Rattle.c_tree.specs.declared.types.IntegerType.{IntegerType}
 use Rattle.c_tree.specs.declared.types.IntegerType.TheVariants.{Char, Short, Int, UnsignedInt}
 use Rattle.c_tree.specs.declared.types.ValueType.{ValueType}
-use Rattle.c_tree.specs.declared.types.ValueType.TheVariants.{Void, Integer, Pointer}
+use Rattle.c_tree.specs.declared.types.ValueType.TheVariants.{Integer}
 use Rattle.c_tree.specs.Evaluation.{evaluate}
 use Rattle.c_tree.specs.Operators.{Computes}
-use Rattle.c_tree.specs.Program.{Local, Function, int}
+use Rattle.c_tree.specs.Program.{Function}
 use Rattle.c_tree.specs.Store as source
 use Rattle.c_tree.specs.Store.{Evaluated, Gives, Ends, Held, HoldsNumber, HoldsPointer, and_then, converted}
 use Rattle.flow_graph.specs.declared.op.Op.TheVariants as op
 use Rattle.flow_graph.specs.States as graph
 use Rattle.flow_graph.specs.States.{number_at, number_of, value_at, with_value}
 use Rattle.lower_lines.specs.Expressions.{cast_part, part_of}
-use Rattle.lower_lines.specs.Following.{Begins, GivesOf, GoesInto, HoldsWanted, IsSite, Lowers, MayWant}
+use Rattle.lower_lines.specs.Following.{Begins, GivesOf, HoldsWanted, IsSite, Lowers, MayWant}
 use Rattle.lower_lines.specs.Following.{Site, Stand, context_of, shown_state}
 use Rattle.lower_lines.specs.Lines.{Line, Emit}
 use Rattle.lower_lines.specs.Parts.{Wanted, Dropped, Own, ToLocal, Tests, Part, converting, in_type, made, narrowed}
@@ -32,8 +31,8 @@ use Rattle.lower_lines.proofs.Steps.{one-step}
 use Rattle.lower_laws.proofs.Binary.{Fits, compound-lowers, turns-fall, works-follow}
 use Rattle.lower_laws.proofs.Going.{stand-back, stand-front}
 use Rattle.lower_laws.proofs.Levels.{levels-one, levels-below}
-use Rattle.lower_laws.proofs.Made.{some-and, variable-there}
-use Rattle.lower_laws.proofs.Operands.{NumberStands, number-operand, integer-not-void}
+use Rattle.lower_laws.proofs.Made.{variable-there}
+use Rattle.lower_laws.proofs.Operands.{NumberStands, number-operand}
 use Rattle.lower_laws.proofs.Pairs.{Falls, goes-both}
 use Rattle.lower_laws.proofs.Reading.{copied-goes}
 use Rattle.lower_laws.proofs.Retyped.{HasAll, follows-any, gives-any, may-any}

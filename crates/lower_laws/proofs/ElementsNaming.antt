@@ -10,7 +10,8 @@ use Rattle.c_tree.specs.Operators.{working_type}
 use Rattle.c_tree.specs.Program.{Element, Expression, Place, Target, value_type}
 use Rattle.c_tree.specs.Store as source
 use Rattle.c_tree.specs.Store.{Evaluated, Held}
-use Rattle.lower_lines.specs.Expressions.{Addressed, array_kept, element_of, kept_if, part_of, stepped_element, target_of}
+use Rattle.lower_lines.specs.Expressions.{Addressed, array_kept, element_of, kept_if, part_of, stepped_element}
+use Rattle.lower_lines.specs.Expressions.{target_of}
 use Rattle.lower_lines.specs.Expressions.{updated_element}
 use Rattle.lower_lines.specs.Following.{IsSite, Lowers, Site, context_of}
 use Rattle.lower_lines.specs.Parts.{Part, if_stays, standing}

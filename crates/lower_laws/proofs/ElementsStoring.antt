@@ -197,9 +197,9 @@ module _ (S : Site) (site : IsSite S) (older : List Function) (t : IntegerType) 
         → suc level < levels_of S.function → number_at i x ≡ Some n → x ≢ temporary (context_of S) level ForScratch
         → Stand S before (computing (context_of S) level within operator (new_value (context_of S) level)
         (old_value (context_of S) level) x ++ (saving ∷ final))
-        → Fits S (S.function ∷ older) before (computing (context_of S) level within operator (new_value (context_of S) level)
-        (old_value (context_of S) level) x ++ (saving ∷ final)) level wanted (Integer t) y i
-        (and_then (and_then (computed (numbers_value within operator m n) y)
+        → Fits S (S.function ∷ older) before (computing (context_of S) level within operator
+        (new_value (context_of S) level) (old_value (context_of S) level) x ++ (saving ∷ final)) level wanted
+        (Integer t) y i (and_then (and_then (computed (numbers_value within operator m n) y)
         (λ new z. store (AtIndex array index) (source.in_type (Integer t) new) z)) picked)
     computed-fits within operator x n room at_x apart stands =
         worked-fits (computing (context_of S) level within operator (new_value (context_of S) level)

@@ -155,7 +155,8 @@ module _ (S : Site) (site : IsSite S) (t within : IntegerType) (operator : Binar
 
   -- the right side has been evaluated
   abbrev behind_right : ArrayName → ℤ → ℤ → Held → source.State → Evaluated Held
-  behind_right array index m y w = and_then (updated (Integer t) within operator (AtIndex array index) (HoldsNumber m) y w)
+  behind_right array index m y w =
+      and_then (updated (Integer t) within operator (AtIndex array index) (HoldsNumber m) y w)
       (λ new z. Gives (pick (HoldsNumber m) new) z)
 
   old-low : (a b : ℕ) → a ≤ a + b + 2
@@ -308,16 +309,16 @@ right-same t within operator found old (Ends end w) = refl
 
 old-same : (t within : IntegerType) (operator : BinaryOp) (found : Found) (run' : source.State → Evaluated Held)
     (r : Evaluated Held)
-    → and_then r (λ old v. and_then (run' v) (λ x w. and_then (updated (Integer t) within operator found old x w) (λ new z.
-    Gives new z))) ≡ and_then r (λ old v. and_then (run' v) (updated (Integer t) within operator found old))
+    → and_then r (λ old v. and_then (run' v) (λ x w. and_then (updated (Integer t) within operator found old x w)
+    (λ new z. Gives new z))) ≡ and_then r (λ old v. and_then (run' v) (updated (Integer t) within operator found old))
 old-same t within operator found run' (Gives old v) = right-same t within operator found old (run' v)
 old-same t within operator found run' (Ends end v) = refl
 
 found-same : (t within : IntegerType) (operator : BinaryOp) (run' : source.State → Evaluated Held) (r : Evaluated Found)
     → and_then r (λ found u. and_then (load found u) (λ old v. and_then (run' v) (λ x w.
     and_then (updated (Integer t) within operator found old x w) (λ new z. Gives new z))))
-    ≡ and_then r (λ found u. and_then (load found u) (λ old v. and_then (run' v) (updated (Integer t) within operator found
-    old)))
+    ≡ and_then r (λ found u. and_then (load found u) (λ old v. and_then (run' v)
+    (updated (Integer t) within operator found old)))
 found-same t within operator run' (Gives found u) = old-same t within operator found run' (load found u)
 found-same t within operator run' (Ends end u) = refl
 
@@ -331,8 +332,8 @@ elements-updated S site t operator to run reaches clear falls a run' u lowers of
     (compound-lowers S (updated_element (context_of S) t operator to a)
     (changing t within operator run run' (λ old new. new)) refl refl
     (λ older block level wanted before s g stands room may b.
-    changed-fits S site t within operator to run reaches clear falls a run' u lowers of some (λ old new. new) older block
-    level wanted before s g room b
+    changed-fits S site t within operator to run reaches clear falls a run' u lowers of some (λ old new. new) older
+    block level wanted before s g room b
     (converted_lines (context_of S) (block + to.blocks + (operand (context_of S) true a).blocks) level wanted t
     (new_value (context_of S) level))
     (new-finishes S site older level wanted t (block + to.blocks + (operand (context_of S) true a).blocks)
@@ -353,9 +354,9 @@ steps-lower : (S : Site) (site : IsSite S) (t : IntegerType) (operator : StepOp)
 steps-lower S site t operator to run reaches clear falls finishes =
     compound-lowers S (stepped_element (context_of S) operator t to) (stepping t operator run) refl refl
     (λ older block level wanted before s g stands room may b.
-    changed-fits S site t (step_type operator (Integer t)) (step_op operator) to run reaches clear falls (one_part (context_of S))
-    (λ v. Gives (HoldsNumber (pos 1)) v) Int (constants-lower S site Int (pos 1)) refl (omega arith)
-    (step_result operator) older block level wanted before s g room b
+    changed-fits S site t (step_type operator (Integer t)) (step_op operator) to run reaches clear falls
+    (one_part (context_of S)) (λ v. Gives (HoldsNumber (pos 1)) v) Int (constants-lower S site Int (pos 1)) refl
+    (omega arith) (step_result operator) older block level wanted before s g room b
     (step_value (context_of S) operator (block + to.blocks) level wanted t)
     (finishes older level wanted (block + to.blocks) (deep level to.levels 1 (levels_of S.function) room) may) stands)
 

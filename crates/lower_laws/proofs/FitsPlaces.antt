@@ -200,7 +200,7 @@ module _ (R : Room) where
         );
         value = binary-part R (Pointer element) Add a b
             (subst (λ (s : ValueType). LinesGive Add s b.of (Pointer element)) (sym e)
-            (lines-give Add _ b.of (Pointer element) gives)) h h';
+            (lines-give Add (Pointer t) b.of (Pointer element) gives)) h h';
         pointer = (element, refl);
         some = let s = h.some in omega (arith, s);
       }
@@ -223,7 +223,7 @@ module _ (R : Room) where
         spot = λ stays level low. (temp R level ForArray low, temp R level ForNumber low);
         value = binary-part R (Pointer element) Add a b
             (subst (λ (s : ValueType). LinesGive Add s b.of (Pointer element)) (sym e)
-            (lines-give Add _ b.of (Pointer element) gives)) h h';
+            (lines-give Add (Integer t) b.of (Pointer element) gives)) h h';
         pointer = (element, refl);
         some = let s = h.some in omega (arith, s);
       }
@@ -438,7 +438,8 @@ module _ (R : Room) where
               fit-then R (x.lines (block + to.blocks) (suc level)) _
                   (operand-fit R true a h' (block + to.blocks) (suc level) (omega (arith, room)) (omega (arith, more)))
                   (fit-then R
-                  (computing c level within operator (new_value c level) (old_value c level) (x.spot (suc level)).number) _
+                  (computing c level within operator (new_value c level) (old_value c level)
+                  (x.spot (suc level)).number) _
                   (computing-fit R level within operator (new_value c level) (old_value c level)
                   (x.spot (suc level)).number low new old n) (
                     ((at.0, (at.1, (new, tt))), tt),
@@ -584,6 +585,7 @@ module _ (R : Room) where
       own-none (Integer Char) k = refl
       own-none (Integer Short) k = refl
       own-none (Integer Int) k = refl
+      own-none (Integer UnsignedInt) k = refl
       own-none (Pointer t) k = refl
   step-part of operator (AtObject o) scalar (t, e) =
       subst (λ (s : ValueType). FitsPart R (step_part c s operator (AtObject o))) e

@@ -3,12 +3,11 @@ use Rattle.std.proofs.Common.{◌≡◌, ℕ, zero, suc, ◌+◌, ◌-◌, ◌<�
 use Rattle.std.proofs.Common.{Some, refl, sym, ap, ◌∙◌, subst, arith, length-append}
 use Rattle.std.specs.Prelude.{if◌then◌else◌, nat_lt, slice_get}
 use Rattle.std.specs.List.{AllByRecursion, range_with_len}
-use Rattle.std.proofs.lemmas.List.{length-map}
 use Rattle.std.proofs.lemmas.List.Elements.{All-from_recursion}
-use Rattle.c_tree.specs.Program.{First, Nothing, Evaluated, Declared, Function}
+use Rattle.c_tree.specs.Program.{Function}
 use Rattle.c_tree.specs.Program.{Declare, Empty, Evaluate, Block, If, While, Do, For, Switch, Break, Continue, Return}
 use Rattle.c_tree.specs.Program.{Statement, Statements, Done, Next}
-use Rattle.c_tree.specs.WellTyped.{first_numbers, functions_numbers, item_number, statement_numbers, statements_numbers}
+use Rattle.c_tree.specs.WellTyped.{first_numbers, functions_numbers, statement_numbers, statements_numbers}
 use Rattle.lower_lines.specs.Shown.{locals_at, numbers_in, numbers_in_first, numbers_of}
 use Rattle.lower_laws.specs.CallsLaws.{StatementsAreOwn}
 use Rattle.lower_lines.proofs.Marks.{numbers-first as first-many}

@@ -79,7 +79,8 @@ module _ (S : Site) (site : IsSite S) (older : List Function) (block level : ℕ
         (arrays-are g x.array y.array array array' holds.0 holds'.0 ∙ ap Some e) r)
         (numbers-follow S site older level x.number y.number index index' (before ++ test ∷ []) s g b.function b.shows
         room (ap number_of holds.1) (ap number_of holds'.1) (index-placed S level t x px)
-        (index-placed S (suc level) u y py) Int operator block wanted (stand-back S before (test ∷ []) rest stands) may),
+        (index-placed S (suc level) u y py) Int operator block wanted
+        (stand-back S before (test ∷ []) rest stands) may),
     typed,
   )
   order-by false e stands = (
@@ -93,12 +94,13 @@ module _ (S : Site) (site : IsSite S) (older : List Function) (block level : ℕ
 order-applies : (S : Site) (site : IsSite S) (operator : BinaryOp) (t u : IntegerType)
     → ((block level : ℕ) (wanted : Wanted) (x y : Spot) → on_pointers (context_of S) block level wanted operator x y
     ≡ in_one (context_of S) block level wanted operator x y)
-    → ((a b : ArrayName) (i j : ℤ) → pointers_value operator a i b j ≡ in_one_array a b (numbers_value Int operator i j))
+    → ((a b : ArrayName) (i j : ℤ)
+    → pointers_value operator a i b j ≡ in_one_array a b (numbers_value Int operator i j))
     → ((active : List Function) (i j : ℤ) (s : source.State)
     → GivesOf S.program active int (computed (numbers_value Int operator i j) s))
     → Applies S int operator (Pointer t) (Pointer u)
-order-applies S site operator t u lines value typed within older block level wanted before x y (HoldsPointer array index)
-    (HoldsPointer array' index') z i stands room may b px py holds holds' is is' =
+order-applies S site operator t u lines value typed within older block level wanted before x y
+    (HoldsPointer array index) (HoldsPointer array' index') z i stands room may b px py holds holds' is is' =
     subst (λ (c : Computed). Fits S (S.function ∷ older) before
     (on_pointers (context_of S) block level wanted operator x y) level wanted int z i (computed c z))
     (sym (value array array' index index'))
@@ -108,38 +110,38 @@ order-applies S site operator t u lines value typed within older block level wan
     (order-by S site older block level wanted before operator z i room may b t u array array' index index' x y px py
     holds holds' (typed (S.function ∷ older) index index' z) (same_array array array') refl
     (subst (λ (ls : List Line). Stand S before ls) (lines block level wanted x y) stands)))
-order-applies S site operator t u lines value typed within older block level wanted before x y (HoldsNumber n) v z i stands
-    room may b px py holds holds' is is' = absurd is
-order-applies S site operator t u lines value typed within older block level wanted before x y (HoldsPointer array index)
-    (HoldsNumber n) z i stands room may b px py holds holds' is is' = absurd is'
+order-applies S site operator t u lines value typed within older block level wanted before x y (HoldsNumber n) v z i
+    stands room may b px py holds holds' is is' = absurd is
+order-applies S site operator t u lines value typed within older block level wanted before x y
+    (HoldsPointer array index) (HoldsNumber n) z i stands room may b px py holds holds' is is' = absurd is'
 
 -- ---- whether they are the same
 
 equal-applies : (S : Site) (site : IsSite S) (t u : IntegerType) → Applies S int Equal (Pointer t) (Pointer u)
-equal-applies S site t u within older block level wanted before x y (HoldsPointer array index) (HoldsPointer array' index') z i
-    stands room may b px py holds holds' is is' =
+equal-applies S site t u within older block level wanted before x y (HoldsPointer array index)
+    (HoldsPointer array' index') z i stands room may b px py holds holds' is is' =
     chosen-fits S site older level (λ block holds fails. equality_test block x y holds fails) before z i
     (same_pointer array index array' index') room b
     (equality-tests S site older level before z i b t u array array' index index' x y holds holds') block wanted stands
     may
-equal-applies S site t u within older block level wanted before x y (HoldsNumber n) v z i stands room may b px py holds holds'
-    is is' = absurd is
-equal-applies S site t u within older block level wanted before x y (HoldsPointer array index) (HoldsNumber n) z i stands room
-    may b px py holds holds' is is' = absurd is'
+equal-applies S site t u within older block level wanted before x y (HoldsNumber n) v z i stands room may b px py holds
+    holds' is is' = absurd is
+equal-applies S site t u within older block level wanted before x y (HoldsPointer array index) (HoldsNumber n) z i
+    stands room may b px py holds holds' is is' = absurd is'
 
 differ-applies : (S : Site) (site : IsSite S) (t u : IntegerType) → Applies S int NotEqual (Pointer t) (Pointer u)
-differ-applies S site t u within older block level wanted before x y (HoldsPointer array index) (HoldsPointer array' index') z
-    i stands room may b px py holds holds' is is' =
+differ-applies S site t u within older block level wanted before x y (HoldsPointer array index)
+    (HoldsPointer array' index') z i stands room may b px py holds holds' is is' =
     chosen-fits S site older level (λ block holds fails. equality_test block x y fails holds) before z i
     (not (same_pointer array index array' index')) room b
     (tests-turned S (S.function ∷ older) level (λ block holds fails. equality_test block x y holds fails) before z i
     (same_pointer array index array' index')
     (equality-tests S site older level before z i b t u array array' index index' x y holds holds')) block wanted stands
     may
-differ-applies S site t u within older block level wanted before x y (HoldsNumber n) v z i stands room may b px py holds holds'
-    is is' = absurd is
-differ-applies S site t u within older block level wanted before x y (HoldsPointer array index) (HoldsNumber n) z i stands room
-    may b px py holds holds' is is' = absurd is'
+differ-applies S site t u within older block level wanted before x y (HoldsNumber n) v z i stands room may b px py holds
+    holds' is is' = absurd is
+differ-applies S site t u within older block level wanted before x y (HoldsPointer array index) (HoldsNumber n) z i
+    stands room may b px py holds holds' is is' = absurd is'
 
 -- ---- every operator
 
@@ -161,6 +163,7 @@ compared-apply S site _ t u takes = absurd takes
 
 pub pointers-compared : PointersAreCompared
 pointers-compared S site operator takes a b t u la of lb of' =
-    operator-lowers S int (working_type operator (value_type a) (value_type b)) operator (part_of (context_of S) a) (part_of (context_of S) b) (evaluate S.calls a)
-    (evaluate S.calls b) (Pointer t) (Pointer u) la of lb of' (pointer-not-void t) (pointer-not-void u)
-    (turns-fall S site a) (turns-fall S site b) (compared-apply S site operator t u takes)
+    operator-lowers S int (working_type operator (value_type a) (value_type b)) operator (part_of (context_of S) a)
+    (part_of (context_of S) b) (evaluate S.calls a) (evaluate S.calls b) (Pointer t) (Pointer u) la of lb of'
+    (pointer-not-void t) (pointer-not-void u) (turns-fall S site a) (turns-fall S site b)
+    (compared-apply S site operator t u takes)

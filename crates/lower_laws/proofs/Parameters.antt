@@ -12,7 +12,7 @@ use Rattle.c_tree.specs.declared.types.IntegerType.TheVariants.{Char, Short, Int
 use Rattle.c_tree.specs.declared.types.ValueType.{ValueType}
 use Rattle.c_tree.specs.declared.types.ValueType.TheVariants.{Void, Integer, Pointer}
 use Rattle.c_tree.specs.Evaluation.{type_of}
-use Rattle.c_tree.specs.Program.{Function, Local, Program}
+use Rattle.c_tree.specs.Program.{Function, Local}
 use Rattle.c_tree.specs.Store as source
 use Rattle.c_tree.specs.Store.{Held, HoldsNumber, HoldsPointer, in_type, with_local}
 use Rattle.c_tree.specs.WellTyped.{IsScalar}
@@ -24,7 +24,7 @@ use Rattle.lower_lines.specs.Expressions.{words_of}
 use Rattle.lower_lines.specs.Following.{Comes, IsSite, Site, Stand, behind, context_of}
 use Rattle.lower_lines.specs.Lines.{Line, Emit}
 use Rattle.lower_lines.specs.Programs.{parameter_of, parameters_lines, words_in}
-use Rattle.lower_lines.specs.Relation.{HoldsAt, IsOf, ShowCalls, Shows, array_value}
+use Rattle.lower_lines.specs.Relation.{HoldsAt, IsOf, Shows, array_value}
 use Rattle.lower_lines.specs.Shown.{first_variable, local_widths}
 use Rattle.lower_lines.specs.Variables.{ForNumber, Spot, levels_of, levels_widths, local_spot, local_variables}
 use Rattle.lower_lines.specs.Variables.{temporary, typed_spot, variable_widths}
@@ -112,12 +112,12 @@ module _ (S : Site) (site : IsSite S) (older : List Function) where
     first = first_variable S.function.locals k
 
     -- a number as it is
-    int-taken : (n : ℤ) → l.of ≡ Integer Int → Stand S before (Emit (op.Param first word) ∷ [])
+    number-taken : (t : IntegerType) (n : ℤ) → l.of ≡ Integer t → Stand S before (Emit (op.Param first word) ∷ [])
         → slice_get g.current.arguments word ≡ Some (Number n)
         → Takes S (S.function ∷ older) before (Emit (op.Param first word) ∷ []) (with_local k (HoldsNumber n) s) g
-    int-taken n of stands there = (
+    number-taken t n of stands there = (
       with_value first (Number n) g,
-      numbers-set S.program S.function older s g k l Int n shows at of,
+      numbers-set S.program S.function older s g k l t n shows at of,
       refl,
       refl,
       refl,
@@ -226,9 +226,9 @@ module _ (S : Site) (site : IsSite S) (older : List Function) where
     one-taken (Integer Short) (HoldsNumber n) others more w of scalar is stands e =
         short-taken n of stands (first-word others (Number n) more w e)
     one-taken (Integer Int) (HoldsNumber n) others more w of scalar is stands e =
-        int-taken n of stands (first-word others (Number n) more w e)
+        number-taken Int n of stands (first-word others (Number n) more w e)
     one-taken (Integer UnsignedInt) (HoldsNumber n) others more w of scalar is stands e =
-        int-taken n of stands (first-word others (Number n) more w e)
+        number-taken UnsignedInt n of stands (first-word others (Number n) more w e)
     one-taken (Pointer t) (HoldsPointer array index) others more w of scalar is stands e =
         pointer-taken t array index of is stands (first-word others (array_value array) (Number index ∷ more) w e)
         (next-word others (array_value array) (Number index) more w e)

@@ -41,8 +41,8 @@ use Rattle.lower_laws.proofs.Types.{integer-of}
 use Rattle.lower_laws.proofs.Widths.{get-before, local-width, role_width, temporary-width}
 use Rattle.lower_laws.specs.FitsLaws.{IsGood, Room}
 
--- What the lines of an operator give, by the types of its operands: of two numbers a number, which is one of every integer
--- type; with a pointer among them, a value of the type that the operator gives.
+-- What the lines of an operator give, by the types of its operands: of two numbers a number, which is one of every
+-- integer type; with a pointer among them, a value of the type that the operator gives.
 abbrev pub LinesGive : BinaryOp → ValueType → ValueType → ValueType → Type 0
 LinesGive operator (Integer s) (Integer t) of = IsInteger of
 LinesGive operator s t of = BinaryGives operator s t of
@@ -157,8 +157,8 @@ module _ (R : Room) where
   local-holds k l (Integer UnsignedInt) at e wide =
       let v = first_variable R.function.locals k in
       let plain : v + 0 ≡ v = omega arith in
-      subst (λ (s : Spot). Wide s.number) (sym (spot-is k l (Integer UnsignedInt) at e)) (subst (λ (n : ℕ). Wide n) plain
-      (variable-width k 0 l Two at (ap (λ (m : ValueType). slice_get (type_widths m) 0) e)))
+      subst (λ (s : Spot). Wide s.number) (sym (spot-is k l (Integer UnsignedInt) at e))
+      (subst (λ (n : ℕ). Wide n) plain (variable-width k 0 l Two at (ap (λ (m : ValueType). slice_get (type_widths m) 0) e)))
   local-holds k l (Pointer t) at e wide =
       let v = first_variable R.function.locals k in
       let plain : v + 0 ≡ v = omega arith in

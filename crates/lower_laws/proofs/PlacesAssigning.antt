@@ -41,7 +41,6 @@ use Rattle.lower_laws.proofs.PlacesReading.{targets-follow}
 use Rattle.lower_laws.proofs.Writing.{store-fits}
 use Rattle.lower_laws.specs.PlacesLaws.{AddressFollows, ElementsAreAssigned, IsSettled, KeepsTurns}
 use Rattle.lower_laws.specs.PlacesLaws.{TargetsAreAssigned, assigned}
-use Rattle.lower_laws.proofs.Logical.{both-fall as fewer}
 
 -- ---- the variables of locals hold what the source has
 

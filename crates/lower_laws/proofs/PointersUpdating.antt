@@ -1,13 +1,12 @@
 -- `p += n` and `p -= n`, where p is a local.
-use Rattle.std.proofs.Common.{◌≡◌, ◌≤◌, ℕ, Some, inl, refl, arith}
+use Rattle.std.proofs.Common.{◌≡◌, ℕ, Some, inl, refl, arith}
 use Rattle.std.specs.Prelude.{slice_get}
-use Rattle.c_eval_laws.specs.Bounds.{state_of}
 use Rattle.c_tree.specs.declared.expression.BinaryOp.{BinaryOp}
 use Rattle.c_tree.specs.declared.types.IntegerType.{IntegerType}
 use Rattle.c_tree.specs.declared.types.IntegerType.TheVariants.{Int}
 use Rattle.c_tree.specs.declared.types.ValueType.TheVariants.{Integer, Pointer}
 use Rattle.c_tree.specs.Evaluation.{InLocal, computed, evaluate, updated}
-use Rattle.c_tree.specs.Operators.{Computed, Computes, Traps, binary_value}
+use Rattle.c_tree.specs.Operators.{binary_value}
 use Rattle.c_tree.specs.Program.{Local}
 use Rattle.c_tree.specs.Store as source
 use Rattle.c_tree.specs.Store.{Evaluated, Gives, Ends, Held, and_then, held}
@@ -18,7 +17,7 @@ use Rattle.lower_lines.specs.Parts.{Part}
 use Rattle.lower_laws.proofs.Binary.{after_both, turns-fall}
 use Rattle.lower_laws.proofs.Levels.{max-behind}
 use Rattle.lower_laws.proofs.Pairs.{Falls}
-use Rattle.lower_laws.proofs.Stepping.{lowers-same, computed-falls, operator-falls, then-then}
+use Rattle.lower_laws.proofs.Stepping.{lowers-same, operator-falls, then-then}
 use Rattle.lower_laws.proofs.Both.{integer-not-void, operator-lowers, pointer-not-void}
 use Rattle.lower_laws.proofs.Moving.{pointers-read}
 use Rattle.lower_laws.proofs.Storing.{assigned-lowers, assigning}

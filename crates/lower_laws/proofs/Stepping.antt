@@ -73,7 +73,8 @@ lowers-same S a run run' same lowers = record {
 
 -- ---- an assignment with an operator
 
-pub then-then : {A B C : Type 0} (r : Evaluated A) (f : A → source.State → Evaluated B) (g : B → source.State → Evaluated C)
+pub then-then : {A B C : Type 0} (r : Evaluated A) (f : A → source.State → Evaluated B)
+    (g : B → source.State → Evaluated C)
     → and_then (and_then r f) g ≡ and_then r (λ v t. and_then (f v t) g)
 then-then (Gives v t) f g = refl
 then-then (Ends end t) f g = refl
@@ -236,7 +237,8 @@ update_of S w operator k = update_part (context_of S) (Integer w) (step_op opera
 -- what it does
 abbrev new_given : IntegerType → StepOp → ℕ → source.State → Evaluated Held
 new_given w operator k s =
-    updated (Integer w) (step_type operator (Integer w)) (step_op operator) (InLocal k) (held s k) (HoldsNumber (pos 1)) s
+    updated (Integer w) (step_type operator (Integer w)) (step_op operator) (InLocal k) (held s k)
+    (HoldsNumber (pos 1)) s
 
 pub assigned-of : (S : Site) (w : IntegerType) (k : ℕ) (a : Part)
     → (assigned_local (context_of S) (Integer w) k a).of ≡ Integer w

@@ -5,12 +5,11 @@ use Rattle.c_tree.specs.declared.expression.StepOp.{StepOp}
 use Rattle.c_tree.specs.declared.expression.StepOp.TheVariants.{PreIncrement, PreDecrement, PostIncrement}
 use Rattle.c_tree.specs.declared.expression.StepOp.TheVariants.{PostDecrement}
 use Rattle.c_tree.specs.declared.types.IntegerType.{IntegerType}
-use Rattle.c_tree.specs.declared.types.IntegerType.TheVariants.{Char, Short, Int}
+use Rattle.c_tree.specs.declared.types.IntegerType.TheVariants.{Char, Short, Int, UnsignedInt}
 use Rattle.c_tree.specs.declared.types.ValueType.{ValueType}
 use Rattle.c_tree.specs.declared.types.ValueType.TheVariants.{Void, Integer, Pointer}
 use Rattle.c_tree.specs.Operators.{step_op, step_type}
-use Rattle.c_tree.specs.Program.{int}
-use Rattle.c_tree.specs.WellTyped.{CanUpdate, IsScalar}
+use Rattle.c_tree.specs.WellTyped.{IsScalar}
 use Rattle.flow_graph.specs.declared.op.Op.TheVariants as op
 use Rattle.flow_graph.specs.Graphs.{IsIn}
 use Rattle.lower_lines.specs.Expressions.{Addressed, AtAddress, AtLocal, AtObject, Located, local_part}
@@ -186,6 +185,7 @@ module _ (c : Context) (D : List ℕ) (low-known : (v : ℕ) → IsIn v D → v 
       own-none (Integer Char) k = refl
       own-none (Integer Short) k = refl
       own-none (Integer Int) k = refl
+      own-none (Integer UnsignedInt) k = refl
       own-none (Pointer t) k = refl
   step-part of operator (AtObject o) scalar (t, e) =
       subst (λ (s : ValueType). Live (step_part c s operator (AtObject o))) e

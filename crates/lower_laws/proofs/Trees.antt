@@ -78,7 +78,8 @@ module _ (p : Program) (f : Function) (calls : Calls) (older : List (List Local)
         then-knows (expression a is.0) (λ x h.
         then-knows (expression b is.1) (λ y h'.
         computed-knows (binary_value (working_type op (value_type a) (value_type b)) op x y)
-        (binary-kind (working_type op (value_type a) (value_type b)) op (value_type a) (value_type b) of x y is.2 h h')))
+        (binary-kind (working_type op (value_type a) (value_type b)) op (value_type a) (value_type b) of x y is.2
+        h h')))
     expression (And a b) is =
         then-knows (expression a is.0) (λ x h. either-knows (is_true x)
         (then-knows (expression b is.2) (λ y h'. gives-knows tt)) (gives-knows tt))
@@ -98,7 +99,8 @@ module _ (p : Program) (f : Function) (calls : Calls) (older : List (List Local)
         then-knows (place-found place of is.0) (λ found h.
         then-knows (load-knows f.locals older of found h) (λ old h'.
         then-knows (as-safe e (expression e is.1)) (λ v h''.
-        updated-knows f.locals older of (working_type op of (value_type e)) op found old v h (safe-kind of old h') h'')))
+        updated-knows f.locals older of (working_type op of (value_type e)) op found old v h
+        (safe-kind of old h') h'')))
     expression (Step of op place) is =
         then-knows (place-found place of is) (λ found h.
         then-knows (load-knows f.locals older of found h) (λ old h'.

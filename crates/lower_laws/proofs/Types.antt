@@ -1,5 +1,5 @@
 -- The lines of a typed expression are of its type.
-use Rattle.std.proofs.Common.{◌≡◌, ◌≢◌, ◌⊎◌, ℕ, Some, inl, inr, refl, sym, ap, subst}
+use Rattle.std.proofs.Common.{◌≡◌, ◌≢◌, ◌⊎◌, ℕ, Some, inl, inr, refl, sym, subst}
 use Rattle.std.proofs.lemmas.List.Elements.{All-get_or}
 use Rattle.std.proofs.lemmas.Option.{get_or_from_slice_get, slice_get_within}
 use Rattle.std.specs.List.{All}
@@ -20,7 +20,7 @@ use Rattle.c_tree.specs.Program.{Conditional, Cast, Assign, Update, Step, Comma,
 use Rattle.c_tree.specs.Program.{Function, LocalPlace, StaticPlace, Target, Element, Local}
 use Rattle.c_tree.specs.WellTyped.{BinaryGives, IsElement, IsInteger, IsPlace, IsResult, IsScalar, IsTyped}
 use Rattle.c_tree.specs.WellTyped.{IsTypedFunction}
-use Rattle.c_tree.specs.WellTyped.{UnaryGives, WellTyped}
+use Rattle.c_tree.specs.WellTyped.{WellTyped}
 use Rattle.lower_lines.specs.Expressions.{assigned_local, local_part, part_of}
 use Rattle.lower_lines.specs.Following.{IsSite, Site, context_of}
 use Rattle.lower_lines.specs.Parts.{Part}

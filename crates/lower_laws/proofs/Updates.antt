@@ -2,10 +2,6 @@
 use Rattle.std.proofs.Common.{◌≡◌, ◌<◌, ◌≤◌, ◌⊎◌, ℕ, suc, ◌+◌, ◌*◌, true, List, []}
 use Rattle.std.proofs.Common.{◌∷◌, ◌++◌, inl, inr, refl, sym, subst, arith}
 use Rattle.c_tree.specs.declared.expression.BinaryOp.{BinaryOp}
-use Rattle.c_tree.specs.declared.expression.BinaryOp.TheVariants.{Multiply, Divide, Remainder, Add, Subtract}
-use Rattle.c_tree.specs.declared.expression.BinaryOp.TheVariants.{ShiftLeft, ShiftRight, Less, Greater, LessOrEqual}
-use Rattle.c_tree.specs.declared.expression.BinaryOp.TheVariants.{GreaterOrEqual, Equal, NotEqual, BitAnd, BitXor}
-use Rattle.c_tree.specs.declared.expression.BinaryOp.TheVariants.{BitOr}
 use Rattle.c_tree.specs.declared.types.IntegerType.{IntegerType}
 use Rattle.c_tree.specs.declared.types.IntegerType.TheVariants.{Int}
 use Rattle.c_tree.specs.declared.types.ValueType.{ValueType}
@@ -54,8 +50,8 @@ module _ (c : Context) (D : List ℕ) (low-known : (v : ℕ) → IsIn v D → v 
 
   -- the new value, its store, and what is done with it behind
   pub stores : (B : ℕ → List ℕ) (level : ℕ) (within : IntegerType) (operator : BinaryOp) (t : IntegerType) (w : Wanted)
-      (y : ℕ) (at : Spot) (S : List ℕ) (rest : List Line) → IsIn (old_value c level) S → IsIn y S → IsIn at.array S → IsIn at.number S
-      → AllFree c level S
+      (y : ℕ) (at : Spot) (S : List ℕ) (rest : List Line) → IsIn (old_value c level) S → IsIn y S → IsIn at.array S
+      → IsIn at.number S → AllFree c level S
       → F c B (new_value c level ∷ S) rest (reached c level w (Integer t) (new_value c level ∷ S))
       → F c B S (computing c level within operator (new_value c level) (old_value c level) y
       ++ (Emit (op.Store (bits_of t) at.array at.number (new_value c level)) ∷ rest)) (reached c level w (Integer t) S)

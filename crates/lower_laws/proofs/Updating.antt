@@ -95,7 +95,8 @@ module _ (S : Site) (site : IsSite S) (k : ℕ) (o : StaticObject) (e : slice_ge
       lowers-same S (updating_part operator a) (λ s. and_then (after_both within operator reads run s) stores)
       (updating within operator run) (λ s. both-then within operator (load (InObject k) s) run stores)
       (object-assigned S site k o e one (binary_part (context_of S) int operator name a)
-      (after_both within operator reads run) Int (binary-lowers S site operator name a reads run t u name-lowers refl lowers of name-falls) refl
+      (after_both within operator reads run) Int
+      (binary-lowers S site operator name a reads run t u name-lowers refl lowers of name-falls) refl
       (λ s. both-falls within operator (load (InObject k) s) run s.turns falls (name-falls s))
       (max-behind name.levels a.levels))
 

@@ -95,8 +95,10 @@ divided-kind of false first second trap trap' n n' = either-computed (HasKind (I
 numbers-kind : (of within : IntegerType) (op : BinaryOp) (a b : ℤ)
     → Computing (HasKind (Integer of)) (numbers_value within op a b)
 numbers-kind of within Multiply a b = tt
-numbers-kind of within Divide a b = divided-kind of (is_signed within) (no_quotient a b) (no_unsigned_quotient a b) _ _ _ _
-numbers-kind of within Remainder a b = divided-kind of (is_signed within) (no_quotient a b) (no_unsigned_quotient a b) _ _ _ _
+numbers-kind of within Divide a b =
+    divided-kind of (is_signed within) (no_quotient a b) (no_unsigned_quotient a b) _ _ _ _
+numbers-kind of within Remainder a b =
+    divided-kind of (is_signed within) (no_quotient a b) (no_unsigned_quotient a b) _ _ _ _
 numbers-kind of within Add a b = tt
 numbers-kind of within Subtract a b = tt
 numbers-kind of within ShiftLeft a b = tt
@@ -142,8 +144,8 @@ number-pointer-kind NotEqual t of a i n e h = of-type of int (pointer_number_val
 number-pointer-kind _ t of a i n e h = absurd e
 
 -- an operator gives a value of its type
-pub binary-kind : (within : IntegerType) (op : BinaryOp) (one two of : ValueType) (x y : Held) → BinaryGives op one two of → HasKind one x
-    → HasKind two y → Computing (HasKind of) (binary_value within op x y)
+pub binary-kind : (within : IntegerType) (op : BinaryOp) (one two of : ValueType) (x y : Held)
+    → BinaryGives op one two of → HasKind one x → HasKind two y → Computing (HasKind of) (binary_value within op x y)
 binary-kind within op Void two of x y e h h' = absurd e
 binary-kind within op (Integer t) Void of x y e h h' = absurd e
 binary-kind within op (Pointer t) Void of x y e h h' = absurd e
@@ -180,7 +182,8 @@ pointer-number-safe _ a i n h = tt
 
 pub binary-safe : (within : IntegerType) (op : BinaryOp) (x y : Held) → IsSafe x → IsSafe y
     → Computing IsSafe (binary_value within op x y)
-binary-safe within op (HoldsNumber a) (HoldsNumber b) h h' = int-safe (numbers_value within op a b) (numbers-kind Int within op a b)
+binary-safe within op (HoldsNumber a) (HoldsNumber b) h h' =
+    int-safe (numbers_value within op a b) (numbers-kind Int within op a b)
 binary-safe within op (HoldsPointer a i) (HoldsPointer b j) h h' =
     int-safe (pointers_value op a i b j) (pointers-kind op a i b j)
 binary-safe within op (HoldsPointer a i) (HoldsNumber n) h h' = pointer-number-safe op a i n h

@@ -6,7 +6,7 @@ use Rattle.lower_laws.specs.ExpressionsLaws.{AreKinds, AreNumbers, IsKind}
 use Rattle.lower_laws.proofs.Calling.{number-calls_lower}
 use Rattle.lower_laws.proofs.ExpressionPassing.{all-passed_int, numbers-pass}
 use Rattle.std.specs.Prelude.{IsSomeAnd}
-use Rattle.std.proofs.Common.{Option, ℕ, List, [], ◌∷◌, map, suc, arith, ◌≡◌, refl, sym, ap, ◌∙◌, subst}
+use Rattle.std.proofs.Common.{Option, ℕ, List, [], ◌∷◌, map, suc, arith, ◌≡◌, refl, sym, ◌∙◌, subst}
 use Rattle.lower_lines.specs.Parts.{Part}
 use Rattle.std.specs.Prelude.{slice_get}
 use Rattle.c_tree.specs.declared.expression.BinaryOp.{BinaryOp}
@@ -20,7 +20,7 @@ use Rattle.c_tree.specs.Operators.{common, numbers_result, numbers_type, unary_t
 use Rattle.c_tree.specs.declared.types.ValueType.{ValueType}
 use Rattle.c_tree.specs.declared.types.ValueType.TheVariants.{Void, Integer, Pointer}
 use Rattle.c_tree.specs.Evaluation.{evaluate}
-use Rattle.c_tree.specs.Program.{int, value_type, Expression, Constant, Start, Read, Address, Unary, Binary, And, Or}
+use Rattle.c_tree.specs.Program.{value_type, Expression, Constant, Start, Read, Address, Unary, Binary, And, Or}
 use Rattle.c_tree.specs.Program.{Conditional, Cast, Assign, Update, Step, Comma, Call, Putchar, Getchar, Exit, Place}
 use Rattle.c_tree.specs.Program.{LocalPlace, StaticPlace, Target, Element}
 use Rattle.c_tree.specs.Store.{Gives, held}
@@ -48,7 +48,8 @@ use Rattle.lower_laws.proofs.Types.{integer-of, not-void_number}
 binary-gives : (op : BinaryOp) (p q of : ValueType) (t u : IntegerType) → p ≡ Integer t → q ≡ Integer u
     → BinaryGives op p q of → of ≡ Integer (numbers_result op (numbers_type op t u))
 binary-gives op p q of t u is is' h =
-    subst (λ (v : ValueType). BinaryGives op (Integer t) v of) is' (subst (λ (v : ValueType). BinaryGives op v q of) is h)
+    subst (λ (v : ValueType). BinaryGives op (Integer t) v of) is'
+    (subst (λ (v : ValueType). BinaryGives op v q of) is h)
 
 conditional-gives : (p q of : ValueType) (t u : IntegerType) → p ≡ Integer t → q ≡ Integer u → ConditionalGives p q of
     → of ≡ Integer (common t u)
@@ -259,7 +260,8 @@ module _ (S : Site) (site : IsSite S) (follow : CallsFollow S) where
         let (u, kind', same') = operand-type b typed.1 is.2 is.3 in
         subst (λ (p : ValueType). Does (Binary p op a b))
         (sym (binary-gives op (value_type a) (value_type b) of t u kind kind' typed.2))
-        (binaries-lower S site (numbers_result op (numbers_type op t u)) op a b t u kind kind' (numbers-follow a typed.0 is.0) same (numbers-follow b typed.1 is.2) same')
+        (binaries-lower S site (numbers_result op (numbers_type op t u)) op a b t u kind kind'
+        (numbers-follow a typed.0 is.0) same (numbers-follow b typed.1 is.2) same')
     numbers-follow (And a b) typed is =
         let (t, kind, same) = operand-type a typed.0 is.0 is.1 in
         let (u, kind', same') = operand-type b typed.2 is.2 is.3 in

@@ -1,5 +1,5 @@
 -- The graphs of a typed program in memory are a program of graphs.
-use Rattle.std.proofs.Common.{◌≡◌, ◌<◌, ◌≤◌, ℕ, zero, suc, List, [], ◌∷◌, Some, refl, ap, ◌∙◌}
+use Rattle.std.proofs.Common.{◌≡◌, ◌<◌, ◌≤◌, ℕ, suc, List, [], ◌∷◌, Some, refl, ap, ◌∙◌}
 use Rattle.std.proofs.Common.{arith, length, map, subst}
 use Rattle.std.specs.Prelude.{slice_get, sum_by}
 use Rattle.std.specs.List.{All, AllByRecursion}

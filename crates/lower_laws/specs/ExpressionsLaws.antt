@@ -109,7 +109,8 @@ abbrev pub UpdatesLower : Type 0
 UpdatesLower = (S : Site) → IsSite S → (operator : BinaryOp) (k : ℕ) (l : Local) (w : IntegerType)
     → slice_get S.function.locals k ≡ Some l → l.of ≡ Integer w → (e : Expression) (u : IntegerType)
     → value_type e ≡ Integer u → Lowers S (part_of (context_of S) e) (evaluate S.calls e)
-    → (part_of (context_of S) e).of ≡ Integer u → Lowers S (part_of (context_of S) (Update (Integer w) operator (LocalPlace k) e))
+    → (part_of (context_of S) e).of ≡ Integer u
+    → Lowers S (part_of (context_of S) (Update (Integer w) operator (LocalPlace k) e))
     (evaluate S.calls (Update (Integer w) operator (LocalPlace k) e))
 
 -- `++` and `--` of a local
