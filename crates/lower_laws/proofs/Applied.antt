@@ -73,7 +73,7 @@ module _ (c : Context) where
     set-flows (WithoutSigns how) to x y S h k =
         writes c B (op.Setu how to x y) to S (to ∷ S) [] (refl, refl, refl) refl (two-in S x y h k) (λ v is. is)
 
-    -- an op that gives a number, and uses up the first of its operands that the rows of registers fix
+    -- an op that gives a number, and uses up its fixed operand beside another
     abbrev UsesUp : ℕ → ℕ → ℕ → List ℕ → Op → Type 0
     UsesUp d k a used i =
         (defined i ≡ Some d) × (fixed i ≡ Some (k, a)) × (marked i ≡ None) × (targets i ≡ []) × (uses i ≡ used)

@@ -158,7 +158,8 @@ module _ (R : Room) where
       let v = first_variable R.function.locals k in
       let plain : v + 0 ≡ v = omega arith in
       subst (λ (s : Spot). Wide s.number) (sym (spot-is k l (Integer UnsignedInt) at e))
-      (subst (λ (n : ℕ). Wide n) plain (variable-width k 0 l Two at (ap (λ (m : ValueType). slice_get (type_widths m) 0) e)))
+      (subst (λ (n : ℕ). Wide n) plain
+      (variable-width k 0 l Two at (ap (λ (m : ValueType). slice_get (type_widths m) 0) e)))
   local-holds k l (Pointer t) at e wide =
       let v = first_variable R.function.locals k in
       let plain : v + 0 ≡ v = omega arith in

@@ -628,7 +628,8 @@ module _ (F O : ℕ) where
             named-then (x.lines (block + to.blocks) (suc level)) _
                 ((operand-named true a h').named (block + to.blocks) (suc level))
                 (named-then
-                (computing c level within operator (new_value c level) (old_value c level) (x.spot (suc level)).number) _
+                (computing c level within operator (new_value c level) (old_value c level)
+                (x.spot (suc level)).number) _
                 (computing-named c level within operator (new_value c level) (old_value c level)
                 (x.spot (suc level)).number)
                 (tt, converted-named c (block + to.blocks + x.blocks) level w t (new_value c level))),

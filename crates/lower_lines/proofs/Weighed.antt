@@ -605,7 +605,8 @@ module _ (W : ℕ) (c : Context) where
         (old_value c level) at.array at.number) _ refl refl
         (weighs-op W (2 + suc 5) (0 + 0) [] (op.Const one (pos 1)) _ refl refl
         (quiet-then W 2 0 (suc 5) 0
-        (computing c level (step_type operator (Integer t)) (step_op operator) (new_value c level) (old_value c level) one) _
+        (computing c level (step_type operator (Integer t)) (step_op operator) (new_value c level)
+        (old_value c level) one) _
         (computing-weighs W c level (step_type operator (Integer t)) (step_op operator) (new_value c level)
         (old_value c level) one)
         (weighs-op W 5 0 [] (op.Store (bits_of t) at.array at.number (new_value c level)) _ refl refl
