@@ -3,18 +3,21 @@
 # `i386-tcc -c`, `gcc -m32 -O0 -S` and `gcc -fsyntax-only` on the same text: the processor's time, the shortest of several
 # runs, the greatest memory, and the time for a token; and the same at 10,000 tokens, with 10 names in all and with as
 # many names as functions of a person have, beside tcc. Then come the size of each map, in all and a point; the times up
-# to the tokens, the tree and the types, from texts whose only fault stands at their end; and how the samples that perf
+# to the tokens, the tree and the types, from texts whose only fault stands at their end; how the samples that perf
 # takes of the processor's clock fall to the storeys of crates.txt and to their crates: `map_lines` and `map_text` print
-# the map.
+# the map; and last the instructions a token, by callgrind, of each command and of pcc's storeys, which don't vary.
 #
-# usage: bench/compile.sh [RUNS]     so many runs each, else 5
+# usage: bench/compile.sh [RUNS]             so many runs each, else 5
+#        bench/compile.sh instructions       the instructions a token alone
 #
-# It wants python3, gcc that makes code for i386, GNU time and perf; where there is no i386-tcc, its rows are left out.
+# It wants python3, gcc that makes code for i386, GNU time, perf and valgrind; where there is no i386-tcc, its rows are
+# left out, and where there is no valgrind, the instructions.
 . "$(dirname "$(readlink -f "$0")")/start.sh"
 build_pcc
 
 PYTHONPATH=$top/bench python3 -B - "$top" "$room" "${1:-5}" <<'PYTHON'
 import collections
+import glob
 import os
 import re
 import shutil
@@ -23,7 +26,8 @@ import sys
 
 from generated import program
 
-TOP, ROOM, RUNS = sys.argv[1], sys.argv[2], int(sys.argv[3])
+TOP, ROOM, ASKED = sys.argv[1:4]
+RUNS = int(ASKED) if ASKED != "instructions" else 0
 HAS_TCC = shutil.which("i386-tcc") is not None
 PROGRAM = f"{TOP}/crates/pcc/out/pcc"
 # Functions like those of a person
@@ -182,6 +186,12 @@ def storeys():
     return found
 
 
+def crate_of(function, is_own, known):
+    """The crate that a function of the program belongs to; else what it is a part of."""
+    crate = function.split("::")[0]
+    return crate if crate in known else "libraries of the kit" if is_own else "the C library"
+
+
 def samples(path):
     """How many samples of some compilations fall to each crate, or to what else they run."""
     data, known, found = f"{ROOM}/perf.data", storeys(), collections.Counter()
@@ -192,21 +202,58 @@ def samples(path):
         for line in script.stdout.splitlines():
             words = line.split()
             if words:
-                crate = words[1].split("::")[0]
-                is_own = words[-1].endswith("/pcc)")
-                kernel = "the kernel" if "kernel" in words[-1] else "the C library"
-                found[crate if crate in known else "libraries of the kit" if is_own else kernel] += 1
+                is_kernel = "kernel" in words[-1]
+                found["the kernel" if is_kernel else crate_of(words[1], words[-1].endswith("/pcc)"), known)] += 1
     return found
 
 
+COST = re.compile(r"^ *([\d,]+) \([^)]*\) +[^:]*:(.*) \[(.*)\]$")
+
+
+def instructions(words):
+    """How many instructions a command and those that it calls execute, by crate or by what else they run."""
+    out, known, found = f"{ROOM}/callgrind", storeys(), collections.Counter()
+    tool = ["valgrind", "--tool=callgrind", "--trace-children=yes", f"--callgrind-out-file={out}.%p"]
+    subprocess.run([*tool, *words], check=True, stderr=subprocess.DEVNULL)
+    for path in glob.glob(f"{out}.*"):
+        told = subprocess.run(["callgrind_annotate", "--threshold=100", path], capture_output=True, text=True, check=True)
+        for count, function, of in filter(None, (COST.match(line) for line in told.stdout.splitlines())):
+            found[crate_of(function, of.endswith("/pcc"), known)] += int(count.replace(",", ""))
+        os.remove(path)
+    return found
+
+
+def by_instructions(sources):
+    """The instructions a token of each command, and for pcc those of each storey."""
+    print("| command | tokens | instructions for a token | pcc's beside it |")
+    print("|---|---|---|---|")
+    own = {}
+    for way, words in WAYS.items():
+        for (tokens, _), path in sources.items():
+            if way == "`i386-tcc -c`" and not HAS_TCC:
+                continue
+            found = instructions(words(path))
+            own.setdefault(path, found)
+            row = f"{found.total() / tokens:,.0f} | {own[path].total() / found.total():.2f}"
+            print(f"| {way} | {tokens:,} | {row} |", flush=True)
+    for (tokens, _), path in sources.items():
+        of_storeys(f"{tokens:,} tokens, instructions for a token", own[path], lambda count: f"{count / tokens:,.0f}")
+
+
 def by_storey(tokens, path):
-    found, known, of = samples(path), storeys(), collections.defaultdict(collections.Counter)
+    found = samples(path)
+    of_storeys(f"{tokens:,} tokens, {found.total():,} samples", found, lambda count: f"{count / found.total():.1%}")
+
+
+def of_storeys(what, found, shown):
+    """A count by crates as one by storeys, the greatest first."""
+    known, of = storeys(), collections.defaultdict(collections.Counter)
     for crate, count in found.items():
         of[known.get(crate, crate)][crate] = count
-    print(f"{tokens:,} tokens, {found.total():,} samples:")
+    print(f"{what}:")
     for storey, crates in sorted(of.items(), key=lambda it: -it[1].total()):
-        most = ", ".join(f"{crate} {count / found.total():.1%}" for crate, count in crates.most_common(6))
-        print(f"    {crates.total() / found.total():.1%} {storey}" + (f": {most}" if storey not in crates else ""))
+        most = ", ".join(f"{crate} {shown(count)}" for crate, count in crates.most_common(6))
+        print(f"    {shown(crates.total())} {storey}" + (f": {most}" if storey not in crates else ""))
 
 
 def main():
@@ -217,12 +264,17 @@ def main():
     sources = {(tokens, "functions of a person"): made(f"{tokens}.c", text) for tokens, text in texts.items()}
     text = program(230, 1)
     sources[len(TOKEN.findall(text)), "generated"] = made("generated.c", text)
+    if ASKED == "instructions":
+        by_instructions(sources)
+        return
     beside_others(sources)
     by_names(10000)
     maps(sources)
     by_pass(texts)
     for (tokens, _), path in sources.items():
         by_storey(tokens, path)
+    if shutil.which("valgrind"):
+        by_instructions(sources)
 
 
 main()

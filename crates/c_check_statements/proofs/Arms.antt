@@ -1,5 +1,5 @@
 -- What is known behind a head, whose number was taken, said of the statement.
-use Rattle.std.proofs.Common.{◌≡◌, ap, subst, ℕ, List}
+use Rattle.std.proofs.Common.{◌≡◌, subst, ℕ, List}
 use Rattle.std.specs.Prelude.{Vec}
 use Rattle.std.specs.declared.alloc.Global.{Global}
 use Rattle.c_tree.specs.declared.statement.Statement.{Statement as Built}

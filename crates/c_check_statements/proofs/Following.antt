@@ -5,11 +5,10 @@ use Rattle.std.specs.Prelude.{Vec}
 use Rattle.std.specs.declared.alloc.Global.{Global}
 use Rattle.std.proofs.Math.Seq.{drop-cons}
 use Rattle.std.proofs.lemmas.List.{append-nil, append_assoc, drop_all}
-use Rattle.pcc_base.specs.declared.fault.Fault.{Fault}
 use Rattle.c_syntax.specs.declared.statement.Statement.{Statement as Raw}
 use Rattle.c_syntax.specs.Statements.{stmt_of, stmts_of}
 use Rattle.c_tree.specs.declared.statement.Statement.{Statement as Built}
-use Rattle.c_tree.specs.Erased.{statement_of, statements_of}
+use Rattle.c_tree.specs.Erased.{statement_of}
 use Rattle.c_tree.specs.Program.{Done, Next, Statement, Statements}
 use Rattle.c_typing.specs.Faults.{least}
 use Rattle.c_typing.specs.Checked.{Checked, Fits, Fails, Note, both, fits}
@@ -18,7 +17,6 @@ use Rattle.c_typing.specs.Statements.{Around, after_statement, after_statements,
 use Rattle.c_typing.specs.Statements.{typed_statements}
 use Rattle.c_check_expressions.specs.declared.judged.Judged.{Judged}
 use Rattle.c_check_expressions.specs.declared.judged.Judged.TheVariants as answers
-use Rattle.c_check_expressions.specs.Parts.{Stands}
 use Rattle.c_check_expressions.specs.Said.{IsSaid}
 use Rattle.c_check_expressions.proofs.Gathering.{fits_same}
 use Rattle.c_check_declarations.proofs.Lists.{notes_same}

@@ -1,10 +1,10 @@
 -- Conditions and values of switches say nothing beside their trees.
-use Rattle.std.proofs.Common.{refl, Bool, true, false, ◌∷◌, [], if◌then◌else◌}
+use Rattle.std.proofs.Common.{refl, ◌∷◌, []}
 use Rattle.pcc_base.specs.declared.span.Span.{Span}
 use Rattle.c_tree.specs.declared.types.ValueType.{ValueType}
 use Rattle.c_tree.specs.declared.types.ValueType.TheVariants.{Void, Integer, Pointer}
 use Rattle.c_tree.specs.Program.{Expression, value_type}
-use Rattle.c_typing.specs.Checked.{Checked, fits}
+use Rattle.c_typing.specs.Checked.{fits}
 use Rattle.c_typing.specs.Rows.{is_scalar, misfit, selected, tested}
 use Rattle.c_check_expressions.specs.Said.{IsQuiet}
 use Rattle.c_check_expressions.proofs.Quiet.{quiet_if}

@@ -3,8 +3,8 @@ use Rattle.std.proofs.Common.{◌≡◌, ◌<◌, ℕ, ℤ, false, [], ◌∷◌
 use Rattle.std.specs.Prelude.{Option, Some, None, Result}
 use Rattle.pcc_base.specs.Outcome.{nothing_listed}
 use Rattle.c_tree.specs.Evaluation.{InLocal, first_state}
-use Rattle.c_tree.specs.Operators.{Computed}
-use Rattle.c_tree.specs.Program.{Expression, Assign, Binary, Constant, LocalPlace, Program, Read, Step}
+use Rattle.c_tree.specs.Operators.{Computed, working_type}
+use Rattle.c_tree.specs.Program.{Expression, Assign, Binary, Constant, LocalPlace, Program, Read, Step, value_type}
 use Rattle.c_tree.specs.Store.{Held, HoldsNumber, State, Gives, and_then, converted, held}
 use Rattle.c_tree.specs.Evaluation.{computed}
 use Rattle.c_tree.specs.declared.expression.BinaryOp.{BinaryOp}
@@ -75,17 +75,19 @@ number_local kept of k (Some n) h = λ p f ts vs fs.
     (λ s. ap (λ (v : Held). Gives (go_on f ts (v ∷ vs) fs) (over s kept)) (h s)) refl))
 
 pub number_binary : (kept : Kept) (of : ValueType) (op : BinaryOp) (x y : Expression) (m n : ℤ) (r : Option ℤ)
-    → IsNumber x kept (Some m) → IsNumber y kept (Some n) → IsApplied op m n r → IsNumber (Binary of op x y) kept r
+    → IsNumber x kept (Some m) → IsNumber y kept (Some n)
+    → IsApplied (working_type op (value_type x) (value_type y)) op m n r → IsNumber (Binary of op x y) kept r
 number_binary kept of op x y m n None first second h = tt
 number_binary kept of op x y m n (Some k) first second h = λ p f ts vs fs.
+    let applies : Task = AppliesBinary (working_type op (value_type x) (value_type y)) op in
     let a : Configuration = go_on f (Evaluates (Binary of op x y) ∷ ts) vs fs in
-    let b : Configuration = go_on f (Evaluates x ∷ Evaluates y ∷ AppliesBinary op ∷ ts) vs fs in
-    let c : Configuration = go_on f (Evaluates y ∷ AppliesBinary op ∷ ts) (HoldsNumber m ∷ vs) fs in
-    let d : Configuration = go_on f (AppliesBinary op ∷ ts) (HoldsNumber n ∷ HoldsNumber m ∷ vs) fs in
+    let b : Configuration = go_on f (Evaluates x ∷ Evaluates y ∷ applies ∷ ts) vs fs in
+    let c : Configuration = go_on f (Evaluates y ∷ applies ∷ ts) (HoldsNumber m ∷ vs) fs in
+    let d : Configuration = go_on f (applies ∷ ts) (HoldsNumber n ∷ HoldsNumber m ∷ vs) fs in
     let e : Configuration = go_on f ts (HoldsNumber k ∷ vs) fs in
     reach_then p kept a b e (reach_step p kept a b (λ s. refl) refl)
-    (reach_then p kept b c e (first p f (Evaluates y ∷ AppliesBinary op ∷ ts) vs fs)
-    (reach_then p kept c d e (second p f (AppliesBinary op ∷ ts) (HoldsNumber m ∷ vs) fs)
+    (reach_then p kept b c e (first p f (Evaluates y ∷ applies ∷ ts) vs fs)
+    (reach_then p kept c d e (second p f (applies ∷ ts) (HoldsNumber m ∷ vs) fs)
     (reach_step p kept d e
     (λ s. ap (λ (v : Computed). and_then (computed v (over s kept))
     (λ (w : Held) (t : State). Gives (go_on f ts (w ∷ vs) fs) t)) h) refl)))

@@ -6,6 +6,7 @@ use Rattle.c_tree.specs.Operators.{Computes, numbers_value}
 use Rattle.c_tree.specs.Program.{Expression, Function, Program}
 use Rattle.c_tree.specs.Store.{Held, HoldsNumber, State, held}
 use Rattle.c_tree.specs.declared.expression.BinaryOp.{BinaryOp}
+use Rattle.c_tree.specs.declared.types.IntegerType.{IntegerType}
 use Rattle.c_eval_laws.specs.Steps.{Configuration, go_on, rest_of}
 use Rattle.c_eval_laws.specs.Tasks.{Task, Ahead, Evaluates}
 use Rattle.c_eval_laws.specs.Weights.{weights}
@@ -26,10 +27,10 @@ abbrev pub IsLocalNumber : ℕ → Kept → Option ℤ → Type 0
 IsLocalNumber local kept None = Unit {0}
 IsLocalNumber local kept (Some n) = (s : State) → held (over s kept) local ≡ HoldsNumber n
 
--- an operator gives this number of two, or nothing is said
-abbrev pub IsApplied : BinaryOp → ℤ → ℤ → Option ℤ → Type 0
-IsApplied op a b None = Unit {0}
-IsApplied op a b (Some n) = numbers_value op a b ≡ Computes (HoldsNumber n)
+-- an operator gives this number of two in the type that it works in, or nothing is said
+abbrev pub IsApplied : IntegerType → BinaryOp → ℤ → ℤ → Option ℤ → Type 0
+IsApplied within op a b None = Unit {0}
+IsApplied within op a b (Some n) = numbers_value within op a b ≡ Computes (HoldsNumber n)
 
 -- an expression comes to this number, whatever is left to do behind it, or nothing is said
 abbrev pub IsNumber : Expression → Kept → Option ℤ → Type 0

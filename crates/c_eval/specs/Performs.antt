@@ -38,12 +38,12 @@ IsPlain _ = Unit {0}
 
 -- those of these that need the stacks alone, and after which the program goes on
 abbrev pub IsOnStacks : memory.Task → Type 0
-IsOnStacks (tasks.AppliesBinary op) = ⊥
+IsOnStacks (tasks.AppliesBinary operator) = ⊥
 IsOnStacks tasks.Exits = ⊥
 IsOnStacks tasks.Loads = ⊥
 IsOnStacks tasks.LoadsOld = ⊥
 IsOnStacks (tasks.Stores of) = ⊥
-IsOnStacks (tasks.Updates of op) = ⊥
+IsOnStacks (tasks.Updates of operator) = ⊥
 IsOnStacks (tasks.Steps of op) = ⊥
 IsOnStacks (tasks.Initialises local of) = ⊥
 IsOnStacks (tasks.FillsElement array element es place) = ⊥

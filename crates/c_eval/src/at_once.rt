@@ -6,9 +6,10 @@ ghost use Rattle.c_eval.specs.AtOnce.{IsApplied, IsLocalNumber, IsNumber, Shorte
 ghost use Rattle.c_eval_laws.specs.Tasks.{Ahead};
 ghost use Rattle.c_tree.specs.Erased.{expression_of};
 
+use crate::operators::operator_on;
 use c_eval_state::{Evaluation, Place as Found, Store, Task, Value};
-use c_operators::{binary_number, convert};
-use c_tree::{BinaryOp, Expression, Place};
+use c_operators::{Operator, binary_number, convert};
+use c_tree::{Expression, Place};
 use pcc_base::NoMemory;
 
 /// How many operators deep a number is looked for. It bounds the stack that this takes, and how often an expression is
@@ -28,10 +29,10 @@ fn local_number(store: &Store, local: u32) -> Option<i32>
 
 /// What an operator gives of two numbers; none where it traps.
 #[inline(always)]
-fn applied(op: BinaryOp, a: i32, b: i32) -> Option<i32>
-    ensures { IsApplied op a b result }
+fn applied(operator: Operator, a: i32, b: i32) -> Option<i32>
+    ensures { IsApplied operator.within operator.op a b result }
 {
-    match binary_number(op, a, b) {
+    match binary_number(operator, a, b) {
         Ok(n) => Some(n),
         Err(_) => None,
     }
@@ -51,7 +52,7 @@ fn number(store: &Store, e: &Expression, depth: u32) -> Option<i32>
             }
             match number(store, a, depth - 1) {
                 Some(first) => match number(store, b, depth - 1) {
-                    Some(second) => applied(*op, first, second),
+                    Some(second) => applied(operator_on(*op, a, b), first, second),
                     None => None,
                 },
                 None => None,

@@ -10,7 +10,8 @@ ghost use Rattle.c_tree.specs.Store.{State, Gives};
 
 use crate::operators::begin_binary;
 use c_eval_state::{Evaluation, Place as Found, Store, Task, Value};
-use c_tree::{BinaryOp, Expression, Place, ValueType};
+use c_operators::{Operator, working_type};
+use c_tree::{BinaryOp, Expression, IntegerType, Place, ValueType};
 use pcc_base::NoMemory;
 
 /// The operand of an expression, or the first of several, is to be evaluated.
@@ -65,7 +66,13 @@ fn begin_access<'a>(left: &mut Evaluation<'a>, e: &'a Expression) -> Result<(), 
             Task::Locates(place),
             Task::LoadsOld,
             Task::Evaluates(e),
-            Task::Updates(*of, *op),
+            Task::Updates(
+                *of,
+                Operator {
+                    op: *op,
+                    within: working_type(*op, *of, e.value_type()),
+                },
+            ),
         ),
         Expression::Step(of, op, place) => {
             left.next_three(Task::Locates(place), Task::LoadsOld, Task::Steps(*of, *op))
@@ -128,7 +135,10 @@ pub fn locate<'a>(left: &mut Evaluation<'a>, place: &'a Place) -> Result<(), NoM
         Place::Element(_, array, index) => left.next_four(
             Task::Evaluates(array),
             Task::Evaluates(index),
-            Task::AppliesBinary(BinaryOp::Add),
+            Task::AppliesBinary(Operator {
+                op: BinaryOp::Add,
+                within: IntegerType::Int,
+            }),
             Task::Points,
         ),
     }

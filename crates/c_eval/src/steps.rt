@@ -84,7 +84,7 @@ fn perform_plain<'a>(
         Task::Loads => stores::load(left, store),
         Task::LoadsOld => stores::load_old(left, store),
         Task::Stores(of) => stores::assign(left, store, of),
-        Task::Updates(of, op) => update(left, store, of, op),
+        Task::Updates(of, operator) => update(left, store, of, operator),
         Task::Steps(of, op) => stores::step(left, store, of, op),
         Task::Initialises(local, of) => {
             stores::initialise(left, store, local, of);
@@ -94,7 +94,7 @@ fn perform_plain<'a>(
             items::fill_element(left, store, array, element, elements, place)
         }
         Task::ReturnsTo(caller) => Ok(passing::pass_return(left, store, caller)?),
-        Task::AppliesBinary(op) => values::apply_binary(left, op),
+        Task::AppliesBinary(operator) => values::apply_binary(left, operator),
         Task::Exits => Err(EvalEnd::Ended(values::exit_status(left))),
         other => Ok(perform_on_stacks(left, other)?),
     }

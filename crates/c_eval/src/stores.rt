@@ -6,14 +6,15 @@ ghost use Rattle.c_eval_state.specs.Left.{left_of};
 ghost use Rattle.c_eval_state.specs.Kept.{over};
 ghost use Rattle.c_eval_laws.specs.Tasks as tasks;
 ghost use Rattle.c_eval_laws.specs.Tasks.{Ahead};
-ghost use Rattle.c_tree.specs.Operators.{step_op, step_result};
+ghost use Rattle.c_tree.specs.Operators.{step_op, step_result, step_type};
 ghost use Rattle.c_eval_state.specs.Values.{held_of};
 ghost use Rattle.c_tree.specs.Program.{Program};
 ghost use Rattle.c_tree.specs.Store.{State, Gives};
 ghost use Rattle.pcc_base.specs.Outcome.{Listing};
 
 use c_eval_state::{EvalEnd, Evaluation, Store, Value};
-use c_tree::{BinaryOp, StepOp, ValueType};
+use c_operators::{Operator, working_type};
+use c_tree::{BinaryOp, IntegerType, StepOp, ValueType};
 use pcc_base::Trap;
 
 /// A place gives what is there.
@@ -75,6 +76,18 @@ fn step_op(op: StepOp) -> BinaryOp
     }
 }
 
+/// The operator of `++` and `--` on a place of the type, with the type that it works in.
+fn step_operator(op: StepOp, of: ValueType) -> Operator
+    ensures op { result.op ≡ step_op op }
+    ensures within { result.within ≡ step_type op of }
+{
+    let op = step_op(op);
+    Operator {
+        op,
+        within: working_type(op, of, ValueType::Integer(IntegerType::Int)),
+    }
+}
+
 /// The value of `++` and `--`: the new one before the operand, and the old one behind it.
 fn step_result(op: StepOp, old: Value, new: Value) -> Value
     ensures { held_of result ≡ step_result op (held_of old) (held_of new) }
@@ -99,7 +112,7 @@ pub fn step(
 {
     let old = left.take_value();
     let place = left.take_place();
-    match old.binary(step_op(op), Value::Number(1)) {
+    match old.binary(step_operator(op, of), Value::Number(1)) {
         Ok(new) => {
             let new = new.in_type(of);
             if store.store(place, new) {

@@ -11,7 +11,8 @@ ghost use Rattle.c_tree.specs.Store.{State, Gives, Ends};
 ghost use Rattle.pcc_base.specs.Outcome.{Listing, Ended};
 
 use c_eval_state::{EvalEnd, Evaluation, Task, Value};
-use c_tree::{BinaryOp, Expression, IntegerType, UnaryOp, ValueType};
+use c_operators::Operator;
+use c_tree::{Expression, IntegerType, UnaryOp, ValueType};
 use pcc_base::NoMemory;
 
 /// A pointer gives the place that it goes to (C99 6.5.3.2).
@@ -49,14 +50,15 @@ pub(crate) fn apply_unary(
 }
 
 /// An operator on two values, or its trap (C99 6.5.5 to 6.5.12).
-pub(crate) fn apply_binary(left: &mut Evaluation<'_>, op: BinaryOp) -> Result<(), EvalEnd>
+pub(crate) fn apply_binary(left: &mut Evaluation<'_>, operator: Operator) -> Result<(), EvalEnd>
     requires { (left_of left.old).way ≡ Ahead }
     ensures { (p : Program) (l : Listing) (s : State)
-        → Comes result (done p l (tasks.AppliesBinary op) (left_of left.old) s) (left_of left.new) s }
+        → Comes result (done p l (tasks.AppliesBinary operator.within operator.op) (left_of left.old) s)
+        (left_of left.new) s }
 {
     let second = left.take_value();
     let first = left.take_value();
-    match first.binary(op, second) {
+    match first.binary(operator, second) {
         Ok(value) => {
             left.hold(value)?;
             Ok(())

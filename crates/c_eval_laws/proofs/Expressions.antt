@@ -2,8 +2,9 @@
 use Rattle.std.proofs.Common.{refl, sym, ◌∙◌}
 use Rattle.std.specs.Prelude.{if◌then◌else◌}
 use Rattle.c_tree.specs.declared.expression.BinaryOp.TheVariants.{Add}
+use Rattle.c_tree.specs.declared.types.IntegerType.TheVariants.{Int}
 use Rattle.c_tree.specs.Evaluation.{evaluate, evaluate_all, locate, load, updated, computed, get_from}
-use Rattle.c_tree.specs.Operators.{binary_value, is_true, step_op}
+use Rattle.c_tree.specs.Operators.{binary_value, is_true, step_op, step_type}
 use Rattle.c_tree.specs.Program.{Constant, Start, Read, Address, Unary, Binary, And, Or, Conditional, Cast}
 use Rattle.c_tree.specs.Program.{Assign, Update, Step, Comma, Call, Putchar, Getchar, Exit, LocalPlace}
 use Rattle.c_tree.specs.Program.{StaticPlace, Target, Element}
@@ -34,7 +35,8 @@ expressions_step p l f (Update of op place e) ts vs fs s = finish-then (locate (
     ∙ finish-same (load found t) _ _ (λ old u. finish-then (evaluate (calls_of p l) e u) _ _))
 expressions_step p l f (Step of op place) ts vs fs s = finish-then (locate (calls_of p l) place s) _ _
     ∙ finish-same (locate (calls_of p l) place s) _ _ (λ found t. finish-then (load found t) _ _
-    ∙ finish-same (load found t) _ _ (λ old u. finish-then (updated of (step_op op) found old _ u) _ _))
+    ∙ finish-same (load found t) _ _ (λ old u.
+    finish-then (updated of (step_type op of) (step_op op) found old _ u) _ _))
 expressions_step p l f (Comma a b) ts vs fs s = finish-then (evaluate (calls_of p l) a s) _ _
 expressions_step p l f (Call of k arguments) ts vs fs s = finish-then (evaluate_all (calls_of p l) arguments s) _ _
 expressions_step p l f (Putchar e) ts vs fs s = finish-then (evaluate (calls_of p l) e s) _ _
@@ -49,4 +51,4 @@ places_step p l f (StaticPlace k) ts vs fs s = refl
 places_step p l f (Target element e) ts vs fs s = finish-then (evaluate (calls_of p l) e s) _ _
 places_step p l f (Element element a i) ts vs fs s = finish-then (evaluate (calls_of p l) a s) _ _
     ∙ finish-same (evaluate (calls_of p l) a s) _ _ (λ x t. finish-then (evaluate (calls_of p l) i t) _ _
-    ∙ finish-same (evaluate (calls_of p l) i t) _ _ (λ y u. finish-then (computed (binary_value Add x y) u) _ _))
+    ∙ finish-same (evaluate (calls_of p l) i t) _ _ (λ y u. finish-then (computed (binary_value Int Add x y) u) _ _))

@@ -4,6 +4,7 @@ use Rattle.std.proofs.Common.{true, false, Option, Some, None, refl, sym, ap, su
 use Rattle.std.specs.Prelude.{if◌then◌else◌}
 use Rattle.pcc_base.specs.Outcome.{End, Trapped, Goes, ArrayName, Null, Static, InFrame, Unknown}
 use Rattle.pcc_base.specs.declared.run.Trap.TheVariants.{Check}
+use Rattle.c_tree.specs.declared.types.IntegerType.{IntegerType}
 use Rattle.c_tree.specs.declared.types.ValueType.{ValueType}
 use Rattle.c_tree.specs.declared.expression.BinaryOp.{BinaryOp}
 use Rattle.c_tree.specs.Evaluation.{Found, InLocal, InObject, AtIndex, load, store, element_read, element_written}
@@ -251,9 +252,9 @@ get-both {k} {d} = record {
 }
 
 -- an operator, and then a store
-pub updated-both : {k d : ℕ} (of : ValueType) (op : BinaryOp) (found : Found) (old value : Held)
-    → Extending k d (updated of op found old value) (updated of op found old value)
-updated-both {k} {d} of op found old value = then-both (computed-both (binary_value op old value))
+pub updated-both : {k d : ℕ} (of : ValueType) (within : IntegerType) (op : BinaryOp) (found : Found) (old value : Held)
+    → Extending k d (updated of within op found old value) (updated of within op found old value)
+updated-both {k} {d} of within op found old value = then-both (computed-both (binary_value within op old value))
     (λ new. store-both found (in_type of new))
 
 -- ---- statements behind one another

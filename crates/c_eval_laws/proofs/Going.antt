@@ -10,7 +10,7 @@ use Rattle.c_tree.specs.Evaluation.{computed, declare, declare_all, evaluate, ev
 use Rattle.c_tree.specs.Evaluation.{fill, load, locate, none_or_from, older}
 use Rattle.c_tree.specs.Evaluation.{own_array, outcome_at, put, store, switched}
 use Rattle.c_tree.specs.Evaluation.{truth_value, type_at, updated}
-use Rattle.c_tree.specs.Operators.{binary_value, is_true, step_op}
+use Rattle.c_tree.specs.Operators.{binary_value, is_true, step_op, step_type}
 use Rattle.c_tree.specs.Program.{Expression, Statement, Statements, Function, Program}
 use Rattle.c_tree.specs.Store.{Held, HoldsNumber, in_type, State, with_local, Evaluated, Gives, Ends, and_then}
 use Rattle.c_eval_laws.specs.Bounds.{ComesAfter, Keeps}
@@ -141,9 +141,9 @@ module _ (p : Program) (l : Listing) where
       ((load-both {k = 0} {d = 0} (top_place fs)).keeps s) (λ v t. goes-on ts f Ahead _ _ t)
   goes-on (Addresses ∷ ts) f Ahead vs fs s = goes-on ts f Ahead _ _ s
   goes-on (AppliesUnary of op ∷ ts) f Ahead vs fs s = goes-on ts f Ahead _ _ s
-  goes-on (AppliesBinary op ∷ ts) f Ahead vs fs s =
-      finish-from s (computed (binary_value op (top (below vs)) (top vs)) s) _
-      ((computed-both {k = 0} {d = 0} (binary_value op (top (below vs)) (top vs))).keeps s)
+  goes-on (AppliesBinary within op ∷ ts) f Ahead vs fs s =
+      finish-from s (computed (binary_value within op (top (below vs)) (top vs)) s) _
+      ((computed-both {k = 0} {d = 0} (binary_value within op (top (below vs)) (top vs))).keeps s)
       (λ v t. goes-on ts f Ahead _ _ t)
   goes-on (AndThen b ∷ ts) f Ahead vs fs s = finish-from s (if is_true (top vs)
       then and_then (evaluate (calls_of p l) b s) (λ y t. Gives (truth_value (is_true y)) t)
@@ -162,13 +162,14 @@ module _ (p : Program) (l : Listing) where
   goes-on (Converts to ∷ ts) f Ahead vs fs s = goes-on ts f Ahead _ _ s
   goes-on (Stores of ∷ ts) f Ahead vs fs s = finish-from s (store (top_place fs) (in_type of (top vs)) s) _
       (store-keeps 0 (top_place fs) (in_type of (top vs)) s) (λ v t. goes-on ts f Ahead _ _ t)
-  goes-on (Updates of op ∷ ts) f Ahead vs fs s =
-      finish-from s (updated of op (top_place fs) (top (below vs)) (top vs) s) _
-      ((updated-both {k = 0} {d = 0} of op (top_place fs) (top (below vs)) (top vs)).keeps s)
+  goes-on (Updates of within op ∷ ts) f Ahead vs fs s =
+      finish-from s (updated of within op (top_place fs) (top (below vs)) (top vs) s) _
+      ((updated-both {k = 0} {d = 0} of within op (top_place fs) (top (below vs)) (top vs)).keeps s)
       (λ v t. goes-on ts f Ahead _ _ t)
   goes-on (Steps of op ∷ ts) f Ahead vs fs s =
-      finish-from s (updated of (step_op op) (top_place fs) (top vs) (HoldsNumber (pos 1)) s) _
-      ((updated-both {k = 0} {d = 0} of (step_op op) (top_place fs) (top vs) (HoldsNumber (pos 1))).keeps s)
+      finish-from s (updated of (step_type op of) (step_op op) (top_place fs) (top vs) (HoldsNumber (pos 1)) s) _
+      ((updated-both {k = 0} {d = 0} of (step_type op of) (step_op op) (top_place fs) (top vs)
+      (HoldsNumber (pos 1))).keeps s)
       (λ v t. goes-on ts f Ahead _ _ t)
   goes-on (Drops ∷ ts) f Ahead vs fs s = goes-on ts f Ahead _ _ s
   goes-on (Passes k es count ∷ ts) f Ahead vs fs s =

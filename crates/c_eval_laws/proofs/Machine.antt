@@ -9,7 +9,7 @@ use Rattle.c_tree.specs.Evaluation.{AtIndex, Found, Left, Falls, Breaks, Continu
 use Rattle.c_tree.specs.Evaluation.{computed, declare, evaluate, evaluated_if_any, execute, execute_from, load}
 use Rattle.c_tree.specs.Evaluation.{none_or_from, store, switched, tested, tested_if_any, truth_value, updated}
 use Rattle.c_tree.specs.Evaluation.{after_statement, fill, own_array, type_at, Setting}
-use Rattle.c_tree.specs.Operators.{binary_value, is_true, step_op}
+use Rattle.c_tree.specs.Operators.{binary_value, is_true, step_op, step_type}
 use Rattle.c_tree.specs.Program.{Expression, Statement, Statements, Done, Next, Function, Program}
 use Rattle.c_tree.specs.Store.{Held, HoldsNumber, in_type, State, Evaluated, Gives, and_then, take_turn}
 use Rattle.c_eval_laws.proofs.Agreeing.{loops_unfold}
@@ -232,18 +232,18 @@ tasks_step p l f Loads ts vs fs s = sym (finish-then (load (top_place fs) s) _ _
 tasks_step p l f LoadsOld ts vs fs s = sym (finish-then (load (top_place fs) s) _ _)
 tasks_step p l f Addresses ts vs fs s = refl
 tasks_step p l f (AppliesUnary of op) ts vs fs s = refl
-tasks_step p l f (AppliesBinary op) ts vs fs s =
-    sym (finish-then (computed (binary_value op (top (below vs)) (top vs)) s) _ _)
+tasks_step p l f (AppliesBinary within op) ts vs fs s =
+    sym (finish-then (computed (binary_value within op (top (below vs)) (top vs)) s) _ _)
 tasks_step p l f (AndThen b) ts vs fs s = and-kept p l f ts b (below vs) fs s (is_true (top vs))
 tasks_step p l f (OrElse b) ts vs fs s = or-kept p l f ts b (below vs) fs s (is_true (top vs))
 tasks_step p l f Truth ts vs fs s = refl
 tasks_step p l f (Chooses of a b) ts vs fs s = choice-kept p l f ts a b s _ (is_true (top vs))
 tasks_step p l f (Converts to) ts vs fs s = refl
 tasks_step p l f (Stores of) ts vs fs s = sym (finish-then (store (top_place fs) (in_type of (top vs)) s) _ _)
-tasks_step p l f (Updates of op) ts vs fs s =
-    sym (finish-then (updated of op (top_place fs) (top (below vs)) (top vs) s) _ _)
+tasks_step p l f (Updates of within op) ts vs fs s =
+    sym (finish-then (updated of within op (top_place fs) (top (below vs)) (top vs) s) _ _)
 tasks_step p l f (Steps of op) ts vs fs s =
-    sym (finish-then (updated of (step_op op) (top_place fs) (top vs) (HoldsNumber (pos 1)) s) _ _)
+    sym (finish-then (updated of (step_type op of) (step_op op) (top_place fs) (top vs) (HoldsNumber (pos 1)) s) _ _)
 tasks_step p l f Drops ts vs fs s = refl
 tasks_step p l f (Passes k es count) ts vs fs s = calls_step p l f k es count ts vs fs s
 tasks_step p l f Puts ts vs fs s = refl

@@ -7,7 +7,7 @@ use Rattle.pcc_base.specs.declared.run.Trap.TheVariants.{Check}
 use Rattle.c_tree.specs.declared.types.ValueType.TheVariants.{Integer}
 use Rattle.c_tree.specs.Evaluation.{Found, AtIndex, load, store, computed}
 use Rattle.c_tree.specs.Evaluation.{get_from, own_array, updated, most_active, switched}
-use Rattle.c_tree.specs.Operators.{binary_value, is_true, step_op}
+use Rattle.c_tree.specs.Operators.{binary_value, is_true, step_op, step_type}
 use Rattle.c_tree.specs.Program.{Expression, Constant, Start, Read, Address, Unary, Binary, And, Or, Conditional, Cast}
 use Rattle.c_tree.specs.Program.{Assign, Update, Step, Comma, Call, Putchar, Getchar, Exit, Place, LocalPlace}
 use Rattle.c_tree.specs.Program.{StaticPlace, Target, Element, Arguments, NoMore, Argument, Elements, Text, Item}
@@ -258,7 +258,8 @@ task-fits p l f LoadsOld ts vs fs s h = gives-fit (load (top_place fs) s) _
     (λ v t. with-same fs (λ m. StacksFit Ahead ts (suc (length vs)) m) h)
 task-fits p l f Addresses ts vs fs s h = with-one fs (λ m. StacksFit Ahead ts (suc (length vs)) m) h
 task-fits p l f (AppliesUnary of op) ts vs fs s h = one-more p l f ts vs fs h
-task-fits p l f (AppliesBinary op) ts vs fs s h = gives-fit (computed (binary_value op (top (below vs)) (top vs)) s) _
+task-fits p l f (AppliesBinary within op) ts vs fs s h =
+    gives-fit (computed (binary_value within op (top (below vs)) (top vs)) s) _
     (λ v t. with-two vs (λ n. StacksFit Ahead ts (suc n) (length fs)) h)
 task-fits p l f (AndThen b) ts vs fs s h =
     and-fits p l f ts (is_true (top vs)) b _ (below vs) fs s (one-more p l f ts vs fs h)
@@ -269,11 +270,11 @@ task-fits p l f (Chooses of a b) ts vs fs s h = one-more p l f ts vs fs h
 task-fits p l f (Converts to) ts vs fs s h = one-more p l f ts vs fs h
 task-fits p l f (Stores of) ts vs fs s h = gives-fit (store (top_place fs) (in_type of (top vs)) s) _
     (λ v t. value-and-place p l f ts vs fs h)
-task-fits p l f (Updates of op) ts vs fs s h =
-    gives-fit (updated of op (top_place fs) (top (below vs)) (top vs) s) _
+task-fits p l f (Updates of within op) ts vs fs s h =
+    gives-fit (updated of within op (top_place fs) (top (below vs)) (top vs) s) _
     (λ v t. values-and-place p l f ts vs fs h)
 task-fits p l f (Steps of op) ts vs fs s h =
-    gives-fit (updated of (step_op op) (top_place fs) (top vs) (HoldsNumber (pos 1)) s) _
+    gives-fit (updated of (step_type op of) (step_op op) (top_place fs) (top vs) (HoldsNumber (pos 1)) s) _
     (λ v t. value-and-place p l f ts vs fs h)
 task-fits p l f Drops ts vs fs s h = with-one vs (λ n. StacksFit Ahead ts n (length fs)) h
 task-fits p l f (Passes k es count) ts vs fs s h = arguments-fit p l f ts k es count vs fs s h
@@ -348,14 +349,14 @@ is_served Loads ts n m h = (omega arith, with-enough 1 m _ h)
 is_served LoadsOld ts n m h = (omega arith, with-enough 1 m _ h)
 is_served Addresses ts n m h = (omega arith, with-enough 1 m _ h)
 is_served (AppliesUnary of op) ts n m h = (with-enough 1 n _ h, omega arith)
-is_served (AppliesBinary op) ts n m h = (with-enough 2 n _ h, omega arith)
+is_served (AppliesBinary within op) ts n m h = (with-enough 2 n _ h, omega arith)
 is_served (AndThen b) ts n m h = (with-enough 1 n _ h, omega arith)
 is_served (OrElse b) ts n m h = (with-enough 1 n _ h, omega arith)
 is_served Truth ts n m h = (with-enough 1 n _ h, omega arith)
 is_served (Chooses of a b) ts n m h = (with-enough 1 n _ h, omega arith)
 is_served (Converts to) ts n m h = (with-enough 1 n _ h, omega arith)
 is_served (Stores of) ts n m h = (with-enough 1 n _ h, both-enough 1 n m _ h)
-is_served (Updates of op) ts n m h = (with-enough 2 n _ h, both-enough 2 n m _ h)
+is_served (Updates of within op) ts n m h = (with-enough 2 n _ h, both-enough 2 n m _ h)
 is_served (Steps of op) ts n m h = (with-enough 1 n _ h, both-enough 1 n m _ h)
 is_served Drops ts n m h = (with-enough 1 n _ h, omega arith)
 is_served (Passes function arguments count) ts n m h = (with-enough count n _ h, omega arith)

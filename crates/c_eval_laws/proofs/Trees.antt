@@ -3,6 +3,7 @@ use Rattle.std.proofs.Common.{◌≡◌, ℕ, zero, suc, ◌+◌, ◌≤◌, pos
 use Rattle.std.proofs.Common.{refl, ap, arith}
 use Rattle.pcc_base.specs.Outcome.{Ended, ArrayName, Static, Listing}
 use Rattle.c_tree.specs.declared.types.IntegerType.{IntegerType}
+use Rattle.c_tree.specs.declared.types.IntegerType.TheVariants.{Int}
 use Rattle.c_tree.specs.declared.types.ValueType.{ValueType}
 use Rattle.c_tree.specs.declared.types.ValueType.TheVariants.{Integer}
 use Rattle.c_tree.specs.declared.expression.ArrayRef.{ArrayRef}
@@ -14,13 +15,13 @@ use Rattle.c_tree.specs.Evaluation.{declare_all, Runs, tested, tested_if_any}
 use Rattle.c_tree.specs.Evaluation.{evaluated_if_any, run_first, returned, switched, none_or_from, execute}
 use Rattle.c_tree.specs.Evaluation.{execute_from, Setting}
 use Rattle.c_tree.specs.Evaluation.{low_byte}
-use Rattle.c_tree.specs.Operators.{binary_value, is_true, step_op}
+use Rattle.c_tree.specs.Operators.{binary_value, is_true, step_op, step_type, working_type}
 use Rattle.c_tree.specs.Program.{Expression, Constant, Start, Read, Address, Unary, Binary, And, Or, Conditional, Cast}
 use Rattle.c_tree.specs.Program.{Assign, Update, Step, Comma, Call, Putchar, Getchar, Exit, Place, LocalPlace}
 use Rattle.c_tree.specs.Program.{StaticPlace, Target, Element, Arguments, NoMore, Argument, Initialiser, Elements, Text}
 use Rattle.c_tree.specs.Program.{Item, Scalar, Array, First, Nothing, Evaluated as EvaluatedFirst, Declared, Statement}
 use Rattle.c_tree.specs.Program.{Declare, Empty, Evaluate, Block, If, While, Do, For, Switch, Break, Continue, Return}
-use Rattle.c_tree.specs.Program.{Statements, Done, Next}
+use Rattle.c_tree.specs.Program.{Statements, Done, Next, value_type}
 use Rattle.c_tree.specs.Store.{HoldsNumber, HoldsPointer, in_type, zero_of, State, with_local}
 use Rattle.c_tree.specs.Store.{array_named, with_array, array_of, visited, Evaluated}
 use Rattle.c_eval_laws.specs.Bounds.{with_more, Extending, CallsExtend}
@@ -59,7 +60,8 @@ module _ (k d : ℕ) (calls others : Calls) (h : CallsExtend k d calls others) w
     expression-both (Unary of op e) = then-both (expression-both e) (λ v. same-both)
     expression-both (Binary of op a b) =
         then-both (expression-both a) (λ x.
-        then-both (expression-both b) (λ y. computed-both (binary_value op x y)))
+        then-both (expression-both b) (λ y.
+        computed-both (binary_value (working_type op (value_type a) (value_type b)) op x y)))
     expression-both (And a b) =
         then-both (expression-both a) (λ x. either-both (is_true x)
         (then-both (expression-both b) (λ y. same-both)) same-both)
@@ -76,11 +78,11 @@ module _ (k d : ℕ) (calls others : Calls) (h : CallsExtend k d calls others) w
     expression-both (Update of op place e) =
         then-both (place-both place) (λ found.
         then-both (load-both found) (λ old.
-        then-both (expression-both e) (updated-both of op found old)))
+        then-both (expression-both e) (updated-both of (working_type op of (value_type e)) op found old)))
     expression-both (Step of op place) =
         then-both (place-both place) (λ found.
         then-both (load-both found) (λ old.
-        then-both (updated-both of (step_op op) found old (HoldsNumber (pos 1))) (λ new. same-both)))
+        then-both (updated-both of (step_type op of) (step_op op) found old (HoldsNumber (pos 1))) (λ new. same-both)))
     expression-both (Comma a b) = then-both (expression-both a) (λ x. expression-both b)
     expression-both (Call of f arguments) = then-both (arguments-both arguments) (h f)
     expression-both (Putchar e) = then-both (expression-both e) (put-both)
@@ -95,7 +97,7 @@ module _ (k d : ℕ) (calls others : Calls) (h : CallsExtend k d calls others) w
     place-both (Element element a i) =
         then-both (expression-both a) (λ x.
         then-both (expression-both i) (λ y.
-        then-both (computed-both (binary_value Add x y)) (λ v. same-both)))
+        then-both (computed-both (binary_value Int Add x y)) (λ v. same-both)))
 
     -- arguments are evaluated, in order
     pub arguments-both : (arguments : Arguments) → Extending k d (evaluate_all calls arguments)

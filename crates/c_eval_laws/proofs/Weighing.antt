@@ -5,11 +5,12 @@ use Rattle.std.specs.Prelude.{ℤ, pos, if◌then◌else◌, nat_le, slice_get}
 use Rattle.pcc_base.specs.Outcome.{ArrayName, Null, Static, InFrame, Unknown, Trapped, Listing}
 use Rattle.pcc_base.specs.declared.run.Trap.TheVariants.{Check}
 use Rattle.c_tree.specs.declared.expression.BinaryOp.{BinaryOp}
+use Rattle.c_tree.specs.declared.types.IntegerType.{IntegerType}
 use Rattle.c_tree.specs.declared.types.ValueType.{ValueType}
 use Rattle.c_tree.specs.declared.types.ValueType.TheVariants.{Integer}
 use Rattle.c_tree.specs.Evaluation.{Found, InLocal, InObject, AtIndex, load, store, computed, element_read}
 use Rattle.c_tree.specs.Evaluation.{element_written, get_from, own_array, updated, most_active, switched}
-use Rattle.c_tree.specs.Operators.{Computed, Computes, Traps, binary_value, is_true, step_op}
+use Rattle.c_tree.specs.Operators.{Computed, Computes, Traps, binary_value, is_true, step_op, step_type}
 use Rattle.c_tree.specs.Program.{Expression, Constant, Start, Read, Address, Unary, Binary, And, Or, Conditional, Cast}
 use Rattle.c_tree.specs.Program.{Assign, Update, Step, Comma, Call, Putchar, Getchar, Exit, Place, LocalPlace}
 use Rattle.c_tree.specs.Program.{StaticPlace, Target, Element, Arguments, NoMore, Argument, Elements, Text, Item}
@@ -70,9 +71,9 @@ computed-still : (c : Computed) (s : State) → Still s (computed c s)
 computed-still (Computes value) s = refl
 computed-still (Traps trap) s = tt
 
-updated-still : (of : ValueType) (op : BinaryOp) (found : Found) (old value : Held) (s : State)
-    → Still s (updated of op found old value s)
-updated-still of op found old value s = by_result (binary_value op old value)
+updated-still : (of : ValueType) (within : IntegerType) (op : BinaryOp) (found : Found) (old value : Held) (s : State)
+    → Still s (updated of within op found old value s)
+updated-still of within op found old value s = by_result (binary_value within op old value)
   where
     by_result : (c : Computed) → Still s (and_then (computed c s) (λ new t. store found (in_type of new) t))
     by_result (Computes new) = store-still found (in_type of new) s
@@ -242,9 +243,9 @@ task-moves p l f LoadsOld ts vs fs s =
     gives-less _ s (load (top_place fs) s) _ (load-still (top_place fs) s) (λ v. omega arith)
 task-moves p l f Addresses ts vs fs s = (refl, omega arith)
 task-moves p l f (AppliesUnary of op) ts vs fs s = (refl, omega arith)
-task-moves p l f (AppliesBinary op) ts vs fs s =
-    gives-less _ s (computed (binary_value op (top (below vs)) (top vs)) s) _
-    (computed-still (binary_value op (top (below vs)) (top vs)) s) (λ v. omega arith)
+task-moves p l f (AppliesBinary within op) ts vs fs s =
+    gives-less _ s (computed (binary_value within op (top (below vs)) (top vs)) s) _
+    (computed-still (binary_value within op (top (below vs)) (top vs)) s) (λ v. omega arith)
 task-moves p l f (AndThen b) ts vs fs s = (refl, and-less (is_true (top vs)) f b ts _ _ fs)
 task-moves p l f (OrElse b) ts vs fs s = (refl, or-less (is_true (top vs)) f b ts _ _ fs)
 task-moves p l f Truth ts vs fs s = (refl, omega arith)
@@ -253,12 +254,12 @@ task-moves p l f (Chooses of a b) ts vs fs s =
 task-moves p l f (Converts to) ts vs fs s = (refl, omega arith)
 task-moves p l f (Stores of) ts vs fs s = gives-less _ s (store (top_place fs) (in_type of (top vs)) s) _
     (store-still (top_place fs) (in_type of (top vs)) s) (λ v. omega arith)
-task-moves p l f (Updates of op) ts vs fs s =
-    gives-less _ s (updated of op (top_place fs) (top (below vs)) (top vs) s) _
-    (updated-still of op (top_place fs) (top (below vs)) (top vs) s) (λ v. omega arith)
+task-moves p l f (Updates of within op) ts vs fs s =
+    gives-less _ s (updated of within op (top_place fs) (top (below vs)) (top vs) s) _
+    (updated-still of within op (top_place fs) (top (below vs)) (top vs) s) (λ v. omega arith)
 task-moves p l f (Steps of op) ts vs fs s =
-    gives-less _ s (updated of (step_op op) (top_place fs) (top vs) (HoldsNumber (pos 1)) s) _
-    (updated-still of (step_op op) (top_place fs) (top vs) (HoldsNumber (pos 1)) s) (λ v. omega arith)
+    gives-less _ s (updated of (step_type op of) (step_op op) (top_place fs) (top vs) (HoldsNumber (pos 1)) s) _
+    (updated-still of (step_type op of) (step_op op) (top_place fs) (top vs) (HoldsNumber (pos 1)) s) (λ v. omega arith)
 task-moves p l f Drops ts vs fs s = (refl, omega arith)
 task-moves p l f (Passes k es count) ts vs fs s = arguments-move p f k es count ts vs fs s
 task-moves p l f Puts ts vs fs s = (refl, omega arith)

@@ -4,18 +4,19 @@ use Rattle.std.specs.Prelude.{None, slice_get, if◌then◌else◌}
 use Rattle.pcc_base.specs.Outcome.{Ended, Trapped, Static, Listing, Outcome}
 use Rattle.pcc_base.specs.declared.run.Trap.TheVariants.{Check}
 use Rattle.c_tree.specs.declared.expression.BinaryOp.TheVariants.{Add}
+use Rattle.c_tree.specs.declared.types.IntegerType.TheVariants.{Int}
 use Rattle.c_tree.specs.declared.types.ValueType.{ValueType}
 use Rattle.c_tree.specs.declared.types.ValueType.TheVariants.{Integer}
 use Rattle.c_tree.specs.Evaluation.{Found, InLocal, InObject, AtIndex, target_of, address_of, load, store, computed}
 use Rattle.c_tree.specs.Evaluation.{low_byte, put, get_from, truth_value, updated, text_then_zeros, zeroed, own_array}
 use Rattle.c_tree.specs.Evaluation.{switched, most_active, type_at, older, first_activation}
-use Rattle.c_tree.specs.Operators.{is_true, unary_value, binary_value, step_op, step_result}
+use Rattle.c_tree.specs.Operators.{is_true, unary_value, binary_value, working_type, step_op, step_type, step_result}
 use Rattle.c_tree.specs.Program.{Expression, Constant, Start, Read, Address, Unary, Binary, And, Or, Conditional, Cast}
 use Rattle.c_tree.specs.Program.{Assign, Update, Step, Comma, Call, Putchar, Getchar, Exit, Place, LocalPlace}
 use Rattle.c_tree.specs.Program.{StaticPlace, Target, Element, Arguments, NoMore, Argument, Elements, Text, Item}
 use Rattle.c_tree.specs.Program.{Scalar, Array, First, Nothing, Evaluated as EvaluatedFirst, Declared, Statement}
 use Rattle.c_tree.specs.Program.{Declare, Empty, Evaluate, Block, If, While, Do, For, Switch, Break, Continue, Return}
-use Rattle.c_tree.specs.Program.{Statements, Done, Next, Function, Program}
+use Rattle.c_tree.specs.Program.{Statements, Done, Next, Function, Program, value_type}
 use Rattle.c_tree.specs.Store.{Held, HoldsNumber, HoldsPointer, converted, in_type, zero_of, State, with_local}
 use Rattle.c_tree.specs.Store.{array_named, with_array, array_of, visited, Evaluated, Gives, Ends, and_then, take_turn}
 use Rattle.c_eval_laws.specs.Tasks.{Task, Evaluates, Locates, Points, Loads, LoadsOld, Addresses, AppliesUnary}
@@ -67,7 +68,8 @@ expression_step f (Read of place) ts vs fs s = Gives (go_on f (Locates place ∷
 expression_step f (Address element place) ts vs fs s = Gives (go_on f (Locates place ∷ Addresses ∷ ts) vs fs) s
 expression_step f (Unary of op e) ts vs fs s = Gives (go_on f (Evaluates e ∷ AppliesUnary of op ∷ ts) vs fs) s
 expression_step f (Binary of op a b) ts vs fs s =
-    Gives (go_on f (Evaluates a ∷ Evaluates b ∷ AppliesBinary op ∷ ts) vs fs) s
+    Gives (go_on f (Evaluates a ∷ Evaluates b
+    ∷ AppliesBinary (working_type op (value_type a) (value_type b)) op ∷ ts) vs fs) s
 expression_step f (And a b) ts vs fs s = Gives (go_on f (Evaluates a ∷ AndThen b ∷ ts) vs fs) s
 expression_step f (Or a b) ts vs fs s = Gives (go_on f (Evaluates a ∷ OrElse b ∷ ts) vs fs) s
 expression_step f (Conditional of t a b) ts vs fs s = Gives (go_on f (Evaluates t ∷ Chooses of a b ∷ ts) vs fs) s
@@ -75,7 +77,8 @@ expression_step f (Cast to e) ts vs fs s = Gives (go_on f (Evaluates e ∷ Conve
 expression_step f (Assign of place e) ts vs fs s =
     Gives (go_on f (Locates place ∷ Evaluates e ∷ Stores of ∷ ts) vs fs) s
 expression_step f (Update of op place e) ts vs fs s =
-    Gives (go_on f (Locates place ∷ LoadsOld ∷ Evaluates e ∷ Updates of op ∷ ts) vs fs) s
+    Gives (go_on f (Locates place ∷ LoadsOld ∷ Evaluates e
+    ∷ Updates of (working_type op of (value_type e)) op ∷ ts) vs fs) s
 expression_step f (Step of op place) ts vs fs s =
     Gives (go_on f (Locates place ∷ LoadsOld ∷ Steps of op ∷ ts) vs fs) s
 expression_step f (Comma a b) ts vs fs s = Gives (go_on f (Evaluates a ∷ Drops ∷ Evaluates b ∷ ts) vs fs) s
@@ -90,7 +93,7 @@ place_step f (LocalPlace v) ts vs fs s = Gives (go_on f ts vs (InLocal v ∷ fs)
 place_step f (StaticPlace k) ts vs fs s = Gives (go_on f ts vs (InObject k ∷ fs)) s
 place_step f (Target element e) ts vs fs s = Gives (go_on f (Evaluates e ∷ Points ∷ ts) vs fs) s
 place_step f (Element element a i) ts vs fs s =
-    Gives (go_on f (Evaluates a ∷ Evaluates i ∷ AppliesBinary Add ∷ Points ∷ ts) vs fs) s
+    Gives (go_on f (Evaluates a ∷ Evaluates i ∷ AppliesBinary Int Add ∷ Points ∷ ts) vs fs) s
 
 -- ---- calls
 
@@ -198,7 +201,8 @@ task_step p l f Loads ts vs fs s = and_then (load (top_place fs) s) (λ v t. Giv
 task_step p l f LoadsOld ts vs fs s = and_then (load (top_place fs) s) (λ v t. Gives (go_on f ts (v ∷ vs) fs) t)
 task_step p l f Addresses ts vs fs s = Gives (go_on f ts (address_of (top_place fs) ∷ vs) (below fs)) s
 task_step p l f (AppliesUnary of op) ts vs fs s = Gives (go_on f ts (unary_value of op (top vs) ∷ below vs) fs) s
-task_step p l f (AppliesBinary op) ts vs fs s = and_then (computed (binary_value op (top (below vs)) (top vs)) s)
+task_step p l f (AppliesBinary within op) ts vs fs s =
+    and_then (computed (binary_value within op (top (below vs)) (top vs)) s)
     (λ v t. Gives (go_on f ts (v ∷ below (below vs)) fs) t)
 task_step p l f (AndThen b) ts vs fs s =
     Gives (if is_true (top vs) then go_on f (Evaluates b ∷ Truth ∷ ts) (below vs) fs
@@ -212,10 +216,11 @@ task_step p l f (Chooses of a b) ts vs fs s =
 task_step p l f (Converts to) ts vs fs s = Gives (go_on f ts (in_type to (top vs) ∷ below vs) fs) s
 task_step p l f (Stores of) ts vs fs s = and_then (store (top_place fs) (in_type of (top vs)) s)
     (λ v t. Gives (go_on f ts (v ∷ below vs) (below fs)) t)
-task_step p l f (Updates of op) ts vs fs s = and_then (updated of op (top_place fs) (top (below vs)) (top vs) s)
+task_step p l f (Updates of within op) ts vs fs s =
+    and_then (updated of within op (top_place fs) (top (below vs)) (top vs) s)
     (λ v t. Gives (go_on f ts (v ∷ below (below vs)) (below fs)) t)
 task_step p l f (Steps of op) ts vs fs s =
-    and_then (updated of (step_op op) (top_place fs) (top vs) (HoldsNumber (pos 1)) s)
+    and_then (updated of (step_type op of) (step_op op) (top_place fs) (top vs) (HoldsNumber (pos 1)) s)
     (λ v t. Gives (go_on f ts (step_result op (top vs) v ∷ below vs) (below fs)) t)
 task_step p l f Drops ts vs fs s = Gives (go_on f ts (below vs) fs) s
 task_step p l f (Passes k es count) ts vs fs s = arguments_step p f k es count ts vs fs s

@@ -16,7 +16,7 @@ use Rattle.c_tree.specs.Evaluation.{declare_all, Left, Falls, Breaks, Continues,
 use Rattle.c_tree.specs.Evaluation.{after_switch, loop, do_loop, tested, tested_if_any, evaluated_if_any, switched}
 use Rattle.c_tree.specs.Evaluation.{none_or_from, Setting, execute, execute_from, type_at, value_left, older}
 use Rattle.c_tree.specs.Evaluation.{call_within, outcome_at, own_array}
-use Rattle.c_tree.specs.Operators.{is_true, unary_value, binary_value, step_op, step_result}
+use Rattle.c_tree.specs.Operators.{is_true, unary_value, binary_value, step_op, step_type, step_result}
 use Rattle.c_tree.specs.Program.{Expression, Place, Arguments, Item, Statement, Statements, Function, Program}
 use Rattle.c_tree.specs.Store.{Held, HoldsNumber, in_type, State, with_local, Evaluated, Gives, Ends, and_then}
 use Rattle.c_eval_laws.specs.Laws.{within}
@@ -40,7 +40,7 @@ pub data Task : Type 0 where
   Addresses : Task
   -- takes the operands, and leaves the result
   AppliesUnary : (of : IntegerType) (op : UnaryOp) → Task
-  AppliesBinary : (op : BinaryOp) → Task
+  AppliesBinary : (within : IntegerType) (op : BinaryOp) → Task
   -- takes the left side of `&&` or `||`, and leaves the value of the whole
   AndThen : (right : Expression) → Task
   OrElse : (right : Expression) → Task
@@ -53,7 +53,7 @@ pub data Task : Type 0 where
   -- takes a value and the place that it is stored to, and leaves it
   Stores : (of : ValueType) → Task
   -- takes the right side, the value of the place before, and the place, and leaves the new value
-  Updates : (of : ValueType) (op : BinaryOp) → Task
+  Updates : (of : ValueType) (within : IntegerType) (op : BinaryOp) → Task
   -- takes the value of the place before, and the place, and leaves the value of `++` or `--`
   Steps : (of : ValueType) (op : StepOp) → Task
   -- takes a value
@@ -198,8 +198,8 @@ rest p l f Ahead (LoadsOld ∷ ts) vs fs s = finish (load (top_place fs) s) (λ 
 rest p l f Ahead (Addresses ∷ ts) vs fs s = rest p l f Ahead ts (address_of (top_place fs) ∷ vs) (below fs) s
 rest p l f Ahead (AppliesUnary of op ∷ ts) vs fs s =
     rest p l f Ahead ts (unary_value of op (top vs) ∷ below vs) fs s
-rest p l f Ahead (AppliesBinary op ∷ ts) vs fs s =
-    finish (computed (binary_value op (top (below vs)) (top vs)) s)
+rest p l f Ahead (AppliesBinary within op ∷ ts) vs fs s =
+    finish (computed (binary_value within op (top (below vs)) (top vs)) s)
     (λ v t. rest p l f Ahead ts (v ∷ below (below vs)) fs t)
 rest p l f Ahead (AndThen b ∷ ts) vs fs s =
     finish (if is_true (top vs)
@@ -216,11 +216,11 @@ rest p l f Ahead (Chooses of a b ∷ ts) vs fs s =
 rest p l f Ahead (Converts to ∷ ts) vs fs s = rest p l f Ahead ts (in_type to (top vs) ∷ below vs) fs s
 rest p l f Ahead (Stores of ∷ ts) vs fs s =
     finish (store (top_place fs) (in_type of (top vs)) s) (λ v t. rest p l f Ahead ts (v ∷ below vs) (below fs) t)
-rest p l f Ahead (Updates of op ∷ ts) vs fs s =
-    finish (updated of op (top_place fs) (top (below vs)) (top vs) s)
+rest p l f Ahead (Updates of within op ∷ ts) vs fs s =
+    finish (updated of within op (top_place fs) (top (below vs)) (top vs) s)
     (λ v t. rest p l f Ahead ts (v ∷ below (below vs)) (below fs) t)
 rest p l f Ahead (Steps of op ∷ ts) vs fs s =
-    finish (updated of (step_op op) (top_place fs) (top vs) (HoldsNumber (pos 1)) s)
+    finish (updated of (step_type op of) (step_op op) (top_place fs) (top vs) (HoldsNumber (pos 1)) s)
     (λ v t. rest p l f Ahead ts (step_result op (top vs) v ∷ below vs) (below fs) t)
 rest p l f Ahead (Drops ∷ ts) vs fs s = rest p l f Ahead ts (below vs) fs s
 rest p l f Ahead (Passes k es count ∷ ts) vs fs s =

@@ -7,7 +7,7 @@ ghost use Rattle.c_tree.specs.Operators.{pointer_number_value};
 ghost use Rattle.c_tree.specs.Operators.{pointers_value, same_array, unary_value};
 
 use crate::value::{ArrayName, Value};
-use c_operators::{binary_number, convert, unary_number};
+use c_operators::{Operator, binary_number, convert, unary_number};
 use c_tree::{BinaryOp, IntegerType, UnaryOp};
 use pcc_base::Trap;
 
@@ -23,27 +23,27 @@ impl Value {
         }
     }
 
-    /// What an operator gives of the value and another, or its trap (C99 6.5.5 to 6.5.12).
-    pub fn binary(self, op: BinaryOp, other: Value) -> Result<Value, Trap>
-        ensures { computed_of result ≡ binary_value op (held_of self) (held_of other) }
+    /// What an operator gives of the value and another in the type that it works in, or its trap (C99 6.5.5 to 6.5.12).
+    pub fn binary(self, operator: Operator, other: Value) -> Result<Value, Trap>
+        ensures { computed_of result ≡ binary_value operator.within operator.op (held_of self) (held_of other) }
     {
         match (self, other) {
-            (Value::Number(a), Value::Number(b)) => numbers(op, a, b),
+            (Value::Number(a), Value::Number(b)) => numbers(operator, a, b),
             (Value::Pointer { array: a, index: i }, Value::Pointer { array: b, index: j }) =>
-                pointers(op, a, i, b, j),
+                pointers(operator.op, a, i, b, j),
             (Value::Pointer { array, index }, Value::Number(n))
             | (Value::Number(n), Value::Pointer { array, index }) => {
-                Ok(pointer_number(op, array, index, n))
+                Ok(pointer_number(operator.op, array, index, n))
             }
         }
     }
 }
 
 /// An operator on two numbers.
-fn numbers(op: BinaryOp, a: i32, b: i32) -> Result<Value, Trap>
-    ensures { computed_of result ≡ numbers_value op a b }
+fn numbers(operator: Operator, a: i32, b: i32) -> Result<Value, Trap>
+    ensures { computed_of result ≡ numbers_value operator.within operator.op a b }
 {
-    match binary_number(op, a, b) {
+    match binary_number(operator, a, b) {
         Ok(n) => Ok(Value::Number(n)),
         Err(trap) => Err(trap),
     }

@@ -1,7 +1,8 @@
 //! What is left to do of a program, and how it is gone through.
 
+use c_operators::Operator;
 use c_tree::{
-    BinaryOp, Expression, Function, IntegerType, Item, Place, Statement, StepOp, UnaryOp, ValueType,
+    Expression, Function, IntegerType, Item, Place, Statement, StepOp, UnaryOp, ValueType,
 };
 
 /// Something that is left to do; what it takes from the stacks and leaves there stands behind the same words of
@@ -17,7 +18,7 @@ pub enum Task<'a> {
     LoadsOld,
     Addresses,
     AppliesUnary(IntegerType, UnaryOp),
-    AppliesBinary(BinaryOp),
+    AppliesBinary(Operator),
     /// The right side of `&&`, and of `||` (C99 6.5.13 and 6.5.14).
     AndThen(&'a Expression),
     OrElse(&'a Expression),
@@ -25,7 +26,7 @@ pub enum Task<'a> {
     Chooses(ValueType, &'a Expression, &'a Expression),
     Converts(ValueType),
     Stores(ValueType),
-    Updates(ValueType, BinaryOp),
+    Updates(ValueType, Operator),
     Steps(ValueType, StepOp),
     Drops,
     /// A call of a function by its number: its arguments, and how many are evaluated.

@@ -1,5 +1,5 @@
 -- What is left of a number in fewer bits, and of one that is shifted to the left.
-use Rattle.std.proofs.Common.{arith, ◌≡◌, refl, sym, ap, ◌∙◌, ℕ, ◌<◌, ◌-◌, ◌%◌, ◌^◌, ℤ, pos, negsuc, mod-eq_of_lt}
+use Rattle.std.proofs.Common.{arith, ◌≡◌, refl, sym, ap, ◌∙◌, ℕ, ◌<◌, ◌%◌, ◌^◌, ℤ, pos, negsuc, mod-eq_of_lt}
 use Rattle.std.specs.Prelude.{◌*ℤ◌, FitsSigned}
 use Rattle.std.specs.Int.{w8, w16, w32, int_wrap, int_shl, cast_signed, cast_unsigned}
 use Rattle.std.proofs.lemmas.Int.{to_z-of_z, wrapping_mul-bits, int_wrap-mul_right}

@@ -9,5 +9,5 @@ mod types;
 
 pub use numbers::{binary_number, convert, is_true, unary_number};
 pub use types::{
-    common, is_signed, numbers_result, numbers_type, promoted, unary_type, working_type, Operator,
+    Operator, common, is_signed, numbers_result, numbers_type, promoted, unary_type, working_type,
 };

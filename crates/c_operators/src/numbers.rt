@@ -6,7 +6,7 @@ ghost use Rattle.c_tree.specs.Operators.{is_less, numbers_value, quotient, remai
 ghost use Rattle.c_tree.specs.Operators.{unary_number};
 ghost use Rattle.c_tree.specs.Store.{converted};
 
-use crate::types::{is_signed, Operator};
+use crate::types::{Operator, is_signed};
 use c_tree::{BinaryOp, IntegerType, UnaryOp};
 use pcc_base::Trap;
 
@@ -100,7 +100,9 @@ fn shifted_right(within: IntegerType, n: i32, count: i32) -> i32
     if is_signed(within) {
         n.wrapping_shr(count.cast_unsigned())
     } else {
-        n.cast_unsigned().wrapping_shr(count.cast_unsigned()).cast_signed()
+        n.cast_unsigned()
+            .wrapping_shr(count.cast_unsigned())
+            .cast_signed()
     }
 }
 

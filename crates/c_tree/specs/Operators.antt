@@ -1,6 +1,7 @@
 -- What the operators give (C99 6.5.3 to 6.5.16). Sums, differences, products and negations wrap at 32 bits. A number
--- without sign is held as the signed number with the same bits, so what tells the two apart is the type that an operator
--- works in: quotients, remainders, orders and shifts to the right ask for it, and all others give the same bits in each.
+-- without sign is held as the signed number with the same bits, so what tells the two apart is the type that an
+-- operator works in: quotients, remainders, orders and shifts to the right ask for it, and all others give the same
+-- bits in each.
 use Rattle.std.specs.Prelude.{ℕ, ◌^◌, Bool, true, false, ◌&&◌, not, ℤ, pos, ◌+ℤ◌, ◌-ℤ◌, ◌*ℤ◌}
 use Rattle.std.specs.Prelude.{neg_ℤ, int_lt, int_div, int_rem, nat_lt, if◌then◌else◌}
 use Rattle.std.specs.Int.{w32, int_wrap, int_bit_and, int_bit_or, int_bit_xor, int_bit_not}

@@ -17,7 +17,7 @@ fn bytes_of(t: IntegerType) -> u8
     match t {
         IntegerType::Char => 1,
         IntegerType::Short => 2,
-        IntegerType::Int => 4,
+        IntegerType::Int | IntegerType::UnsignedInt => 4,
     }
 }
 

@@ -30,6 +30,6 @@ pub fn converting(
             lines.emit(Op::Wide(to, byte))
         }
         IntegerType::Short => lines.emit(Op::Low16(to, from)),
-        IntegerType::Int => copied(lines, to, from),
+        IntegerType::Int | IntegerType::UnsignedInt => copied(lines, to, from),
     }
 }

@@ -20,7 +20,7 @@ pub fn bytes_of(t: IntegerType) -> u8
     match t {
         IntegerType::Char => 1,
         IntegerType::Short => 2,
-        IntegerType::Int => 4,
+        IntegerType::Int | IntegerType::UnsignedInt => 4,
     }
 }
 
@@ -39,7 +39,9 @@ fn add_type(widths: &mut Vec<Width>, of: ValueType) -> Result<(), NoMemory>
     match of {
         ValueType::Void => Ok(()),
         ValueType::Integer(IntegerType::Char) => add(widths, &[Width::One]),
-        ValueType::Integer(IntegerType::Short | IntegerType::Int) => add(widths, &[Width::Two]),
+        ValueType::Integer(IntegerType::Short | IntegerType::Int | IntegerType::UnsignedInt) => {
+            add(widths, &[Width::Two])
+        }
         ValueType::Pointer(_) => add(widths, &[Width::Two, Width::Two]),
     }
 }

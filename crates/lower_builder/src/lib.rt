@@ -7,7 +7,7 @@
 //! memory; a number above 32 bits counts as it.
 //!
 //! `lines` has the builder, `graph` and `frames` the graph with its widths and arrays, `heights` how many temporaries
-//! expressions take; `site`, `spot` and `temporaries` the variables; `moves`, `operators`, `conversions` and
+//! expressions take; `site`, `spot` and `temporaries` the variables; `moves`, `numbers`, `operators`, `conversions` and
 //! `arguments` lines on values that stand in variables, and `objects` those of static objects.
 #![tactic(auto)]
 
@@ -19,6 +19,7 @@ mod heights;
 mod line;
 mod lines;
 mod moves;
+mod numbers;
 mod objects;
 mod operators;
 mod site;
@@ -37,7 +38,7 @@ pub use moves::{
     copied, delivered, moved, null_pointer, number_test, pointer_test, reading, target, tested,
 };
 pub use objects::{bits_of, object, text_count};
-pub use operators::{applied, comparison_of, computing, end_truth, on_numbers, tested_number};
+pub use operators::{applied, computing, end_truth, on_numbers, tested_number};
 pub use site::Site;
 pub use spot::Spot;
 pub use wanted::Wanted;

@@ -24,7 +24,7 @@ pub fn bits_of(t: IntegerType) -> Bits
     match t {
         IntegerType::Char => Bits::Eight,
         IntegerType::Short => Bits::Sixteen,
-        IntegerType::Int => Bits::ThirtyTwo,
+        IntegerType::Int | IntegerType::UnsignedInt => Bits::ThirtyTwo,
     }
 }
 

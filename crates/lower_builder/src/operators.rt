@@ -1,86 +1,47 @@
 //! Operators on values that stand in variables (C99 6.5.5 to 6.5.12).
 
-ghost use Rattle.std.specs.Prelude.{◌≡◌, [], ◌∷◌, OnOk, if◌then◌else◌};
+ghost use Rattle.std.specs.Prelude.{[], ◌∷◌, OnOk, if◌then◌else◌, option_map};
 ghost use Rattle.c_tree.specs.declared.types.IntegerType.TheVariants.{Int};
 ghost use Rattle.c_tree.specs.declared.types.ValueType.TheVariants.{Integer, Pointer};
 ghost use Rattle.flow_graph.specs.declared.op.Op.TheVariants as op;
 ghost use Rattle.lower_lines.specs.Lines.{Emit, Start};
 ghost use Rattle.c_tree.specs.Program.{int};
 ghost use Rattle.lower_builder.specs.Built.{Adds};
-ghost use Rattle.lower_lines.specs.Operators.{applied, applied_blocks, branching, comparison_of, computing};
+ghost use Rattle.lower_lines.specs.Operators.{applied, applied_blocks, branching, computing};
 ghost use Rattle.lower_lines.specs.Operators.{equality_test, moving, on_numbers, on_pointer, on_pointer_blocks};
 ghost use Rattle.lower_lines.specs.Operators.{on_pointers, on_pointers_blocks};
 ghost use Rattle.lower_lines.specs.Parts.{chosen, chosen_blocks, made, pointer_test, tested, tested_blocks, truth};
 ghost use Rattle.lower_builder.specs.Sites.{context_of};
 ghost use Rattle.lower_builder.specs.Spots.{spot_of};
 ghost use Rattle.lower_builder.specs.MoveViews.{plain, wanted_of};
-ghost use Rattle.lower_builder.specs.Computed.{op_of};
+ghost use Rattle.lower_builder.specs.Computed.{number_test_of};
 ghost use Rattle.lower_builder.specs.Views.{truth_end};
 
 use crate::lines::{Lines, plus};
 use crate::moves::{copied, number_test, pointer_test, target, tested};
+use crate::numbers::{NumberTest, op_of, test_branch, test_of};
 use crate::site::Site;
 use crate::spot::Spot;
 use crate::wanted::Wanted;
+use c_operators::{Operator, numbers_type};
 use c_tree::{BinaryOp, IntegerType, ValueType};
 use flow_graph::{Comparison, Op};
 use pcc_base::NoMemory;
-
-/// The comparison that an operator is.
-pub fn comparison_of(operator: BinaryOp) -> Option<Comparison>
-    ensures { result ≡ comparison_of operator }
-{
-    match operator {
-        BinaryOp::Less => Some(Comparison::Lt),
-        BinaryOp::Greater => Some(Comparison::Gt),
-        BinaryOp::LessOrEqual => Some(Comparison::Le),
-        BinaryOp::GreaterOrEqual => Some(Comparison::Ge),
-        BinaryOp::Equal => Some(Comparison::Eq),
-        BinaryOp::NotEqual => Some(Comparison::Ne),
-        BinaryOp::Multiply | BinaryOp::Divide | BinaryOp::Remainder => None,
-        BinaryOp::Add | BinaryOp::Subtract => None,
-        BinaryOp::ShiftLeft | BinaryOp::ShiftRight => None,
-        BinaryOp::BitAnd | BinaryOp::BitXor | BinaryOp::BitOr => None,
-    }
-}
-
-/// The op of an operator on two numbers, which stand where it takes them.
-fn op_of(operator: BinaryOp, to: u32, x: u32, y: u32) -> Op
-    ensures { result ≡ op_of operator to x y }
-{
-    match operator {
-        BinaryOp::Multiply => Op::Mul(to, x, y),
-        BinaryOp::Divide => Op::Div(to, x, y),
-        BinaryOp::Remainder => Op::Rem(to, x, y),
-        BinaryOp::Add => Op::Add(to, x, y),
-        BinaryOp::Subtract => Op::Sub(to, x, y),
-        BinaryOp::ShiftLeft => Op::Shl(to, x, y),
-        BinaryOp::ShiftRight => Op::Sar(to, x, y),
-        BinaryOp::Less => Op::Set(Comparison::Lt, to, x, y),
-        BinaryOp::Greater => Op::Set(Comparison::Gt, to, x, y),
-        BinaryOp::LessOrEqual => Op::Set(Comparison::Le, to, x, y),
-        BinaryOp::GreaterOrEqual => Op::Set(Comparison::Ge, to, x, y),
-        BinaryOp::Equal => Op::Set(Comparison::Eq, to, x, y),
-        BinaryOp::NotEqual => Op::Set(Comparison::Ne, to, x, y),
-        BinaryOp::BitAnd => Op::And(to, x, y),
-        BinaryOp::BitXor => Op::Xor(to, x, y),
-        BinaryOp::BitOr => Op::Or(to, x, y),
-    }
-}
 
 /// The result of an operator on two numbers in a variable.
 pub fn computing(
     lines: &mut Lines,
     site: &Site<'_>,
     level: u32,
-    operator: BinaryOp,
+    operator: Operator,
     to: u32,
     x: u32,
     y: u32,
 ) -> Result<(), NoMemory>
-    ensures { OnOk result (Adds lines.old lines.new 0 (computing (context_of site.now) level operator to x y)) }
+    ensures { OnOk result (Adds lines.old lines.new 0
+        (computing (context_of site.now) level operator.within operator.op to x y)) }
 {
-    match operator {
+    match operator.op {
         BinaryOp::Divide | BinaryOp::Remainder => {
             let dividend = site.scratch(level)?;
             lines.emit(Op::Copy(dividend, x))?;
@@ -132,13 +93,13 @@ fn computed(
     site: &Site<'_>,
     level: u32,
     wanted: Wanted,
-    operator: BinaryOp,
+    operator: Operator,
     x: u32,
     y: u32,
 ) -> Result<(), NoMemory>
     ensures { OnOk result (Adds lines.old lines.new 0
         (made (context_of site.now) lines.old.next level (wanted_of wanted) int
-        (λ to. computing (context_of site.now) level operator to.number x y))) }
+        (λ to. computing (context_of site.now) level operator.within operator.op to.number x y))) }
 {
     let to = target(site, level, wanted)?;
     computing(lines, site, level, operator, to.number, x, y)?;
@@ -151,19 +112,19 @@ fn compared(
     site: &Site<'_>,
     level: u32,
     wanted: Wanted,
-    how: Option<Comparison>,
-    operator: BinaryOp,
+    test: Option<NumberTest>,
+    operator: Operator,
     x: u32,
     y: u32,
 ) -> Result<(), NoMemory>
     ensures { OnOk result (Adds lines.old lines.new 0
-        (branching how (wanted_of wanted)
+        (branching (option_map number_test_of test) (wanted_of wanted)
         (made (context_of site.now) lines.old.next level (wanted_of wanted) int
-        (λ to. computing (context_of site.now) level operator to.number x y)) x y)) }
+        (λ to. computing (context_of site.now) level operator.within operator.op to.number x y)) x y)) }
 {
-    match how {
-        Some(how) => match wanted {
-            Wanted::Tests(holds, fails) => lines.emit(Op::Branch(how, x, y, holds, fails)),
+    match test {
+        Some(test) => match wanted {
+            Wanted::Tests(holds, fails) => lines.emit(test_branch(test, x, y, holds, fails)),
             Wanted::Dropped | Wanted::Own | Wanted::ToLocal(_) => {
                 computed(lines, site, level, wanted, operator, x, y)
             }
@@ -178,19 +139,19 @@ pub fn on_numbers(
     site: &Site<'_>,
     level: u32,
     wanted: Wanted,
-    operator: BinaryOp,
+    operator: Operator,
     x: u32,
     y: u32,
 ) -> Result<(), NoMemory>
     ensures { OnOk result (Adds lines.old lines.new 0
-        (on_numbers (context_of site.now) lines.old.next level (wanted_of wanted) operator x y)) }
+        (on_numbers (context_of site.now) lines.old.next level (wanted_of wanted) operator.within operator.op x y)) }
 {
     compared(
         lines,
         site,
         level,
         wanted,
-        comparison_of(operator),
+        test_of(operator),
         operator,
         x,
         y,
@@ -463,9 +424,13 @@ fn in_one_array(
     y: Spot,
 ) -> Result<(), NoMemory>
     ensures { OnOk result (Adds lines.old lines.new 0 (Emit (op.Same x.array y.array)
-        ∷ on_numbers (context_of site.now) lines.old.next level (wanted_of wanted) operator x.number y.number)) }
+        ∷ on_numbers (context_of site.now) lines.old.next level (wanted_of wanted) Int operator x.number y.number)) }
 {
     lines.emit(Op::Same(x.array, y.array))?;
+    let operator = Operator {
+        op: operator,
+        within: IntegerType::Int,
+    };
     on_numbers(lines, site, level, wanted, operator, x.number, y.number)
 }
 
@@ -520,7 +485,11 @@ pub fn applied(
         (spot_of x) (spot_of y))) }
 {
     match types {
-        (ValueType::Integer(_), ValueType::Integer(_)) => {
+        (ValueType::Integer(t), ValueType::Integer(u)) => {
+            let operator = Operator {
+                op: operator,
+                within: numbers_type(operator, t, u),
+            };
             on_numbers(lines, site, level, wanted, operator, x.number, y.number)
         }
         (ValueType::Pointer(_), ValueType::Integer(_)) => {

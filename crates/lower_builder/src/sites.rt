@@ -37,7 +37,7 @@ fn variables_in(of: ValueType) -> u32
         ValueType::Void => 0,
         ValueType::Integer(IntegerType::Char) => 1,
         ValueType::Integer(IntegerType::Short) => 1,
-        ValueType::Integer(IntegerType::Int) => 1,
+        ValueType::Integer(IntegerType::Int | IntegerType::UnsignedInt) => 1,
         ValueType::Pointer(_) => 2,
     }
 }

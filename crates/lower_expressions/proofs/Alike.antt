@@ -6,7 +6,7 @@ use Rattle.c_tree.specs.declared.expression.StepOp.{StepOp}
 use Rattle.c_tree.specs.declared.expression.StepOp.TheVariants.{PreIncrement, PreDecrement, PostIncrement}
 use Rattle.c_tree.specs.declared.expression.StepOp.TheVariants.{PostDecrement}
 use Rattle.c_tree.specs.declared.expression.UnaryOp.TheVariants.{Plus, Minus, Complement, Not}
-use Rattle.c_tree.specs.declared.types.IntegerType.TheVariants.{Char, Short, Int}
+use Rattle.c_tree.specs.declared.types.IntegerType.TheVariants.{Char, Short, Int, UnsignedInt}
 use Rattle.c_tree.specs.declared.types.ValueType.{ValueType}
 use Rattle.c_tree.specs.declared.types.ValueType.TheVariants.{Void, Integer, Pointer}
 use Rattle.c_tree.specs.Program.{Expression, Constant, Start, Read, Address, Unary, Binary, And, Or, Conditional}
@@ -104,6 +104,7 @@ local-alike c Void v = record { same = λ w. tested w Void }
 local-alike c (Integer Char) v = record { same = λ w. refl }
 local-alike c (Integer Short) v = record { same = λ w. tested w (Integer Short) }
 local-alike c (Integer Int) v = record { same = λ w. tested w (Integer Int) }
+local-alike c (Integer UnsignedInt) v = record { same = λ w. tested w (Integer UnsignedInt) }
 local-alike c (Pointer t) v = record { same = λ w. tested w (Pointer t) }
 
 assigned-alike : (c : Context) (of : ValueType) (v : ℕ) (a : Part) → IsAlike (assigned_local c of v a)
@@ -117,6 +118,9 @@ assigned-alike c (Integer Short) v a = record {
 assigned-alike c (Integer Int) v a = record {
   same = λ w. ap (λ (n : ℕ). a.blocks (ToLocal v) + n) (tested w (Integer Int));
 }
+assigned-alike c (Integer UnsignedInt) v a = record {
+  same = λ w. ap (λ (n : ℕ). a.blocks (ToLocal v) + n) (tested w (Integer UnsignedInt));
+}
 assigned-alike c (Pointer t) v a = record {
   same = λ w. ap (λ (n : ℕ). (in_type c (Pointer t) a).blocks (ToLocal v) + n) (tested w (Pointer t));
 }
@@ -126,6 +130,7 @@ typed-alike c Void a h = record { same = λ w. refl }
 typed-alike c (Integer Char) a h = record { same = λ w. refl }
 typed-alike c (Integer Short) a h = record { same = λ w. refl }
 typed-alike c (Integer Int) a h = h
+typed-alike c (Integer UnsignedInt) a h = h
 typed-alike c (Pointer t) a h = pointer a.of
   where
     pointer : (of : ValueType) → IsAlike (as_pointer c t of a)

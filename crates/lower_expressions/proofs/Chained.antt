@@ -1,11 +1,11 @@
 -- Lines that are added one after another.
-use Rattle.std.proofs.Common.{◌≡◌, ℕ, suc, ◌+◌, List, [], ◌∷◌, ◌++◌, refl, sym, ap, ◌∙◌, arith, append_assoc, subst}
+use Rattle.std.proofs.Common.{◌≡◌, ℕ, ◌+◌, List, [], ◌∷◌, ◌++◌, ap, ◌∙◌, arith, append_assoc, subst}
 use Rattle.std.proofs.Common.{pos}
 use Rattle.std.specs.Prelude.{ℤ}
 use Rattle.c_tree.specs.declared.types.IntegerType.{IntegerType}
 use Rattle.flow_graph.specs.declared.op.Op.TheVariants as op
 use Rattle.lower_builder.specs.Built.{Built, Adds}
-use Rattle.lower_lines.specs.Lines.{Line, Start, Emit}
+use Rattle.lower_lines.specs.Lines.{Line, Emit}
 use Rattle.lower_lines.specs.Statements.{text_count}
 use Rattle.lower_lines.specs.Variables.{Context, ForArray, ForNumber, ForScratch, temporary}
 use Rattle.lower_expressions.specs.Copies.{copy_lines, text_lines}

@@ -6,10 +6,11 @@ use Rattle.c_tree.specs.declared.expression.StepOp.TheVariants.{PreIncrement, Pr
 use Rattle.c_tree.specs.declared.expression.StepOp.TheVariants.{PostDecrement}
 use Rattle.c_tree.specs.declared.expression.UnaryOp.{UnaryOp}
 use Rattle.c_tree.specs.declared.expression.UnaryOp.TheVariants.{Plus, Minus, Complement, Not}
-use Rattle.c_tree.specs.declared.types.IntegerType.TheVariants.{Char, Short, Int}
+use Rattle.c_tree.specs.declared.types.IntegerType.{IntegerType}
+use Rattle.c_tree.specs.declared.types.IntegerType.TheVariants.{Char, Short, Int, UnsignedInt}
 use Rattle.c_tree.specs.declared.types.ValueType.{ValueType}
 use Rattle.c_tree.specs.declared.types.ValueType.TheVariants.{Void, Integer, Pointer}
-use Rattle.c_tree.specs.Program.{int, Expression, Constant, Start, Read, Address, Unary, Binary, And, Or, Conditional}
+use Rattle.c_tree.specs.Program.{Expression, Constant, Start, Read, Address, Unary, Binary, And, Or, Conditional}
 use Rattle.c_tree.specs.Program.{Cast, Assign, Update, Step, Comma, Call, Putchar, Getchar, Exit, Place, LocalPlace}
 use Rattle.c_tree.specs.Program.{StaticPlace, Target, Element}
 use Rattle.lower_lines.specs.Expressions.{assign_part}
@@ -26,6 +27,7 @@ local-of c Void v = refl
 local-of c (Integer Char) v = refl
 local-of c (Integer Short) v = refl
 local-of c (Integer Int) v = refl
+local-of c (Integer UnsignedInt) v = refl
 local-of c (Pointer t) v = refl
 
 local-simple : (c : Context) (of : ValueType) (v : ℕ) → (local_part c of v).simple ≡ true
@@ -33,6 +35,7 @@ local-simple c Void v = refl
 local-simple c (Integer Char) v = refl
 local-simple c (Integer Short) v = refl
 local-simple c (Integer Int) v = refl
+local-simple c (Integer UnsignedInt) v = refl
 local-simple c (Pointer t) v = refl
 
 -- a compound part with a type
@@ -46,6 +49,7 @@ assigned c Void v a = record { has = refl; simple = refl; stands = refl }
 assigned c (Integer Char) v a = record { has = refl; simple = refl; stands = refl }
 assigned c (Integer Short) v a = record { has = refl; simple = refl; stands = refl }
 assigned c (Integer Int) v a = record { has = refl; simple = refl; stands = refl }
+assigned c (Integer UnsignedInt) v a = record { has = refl; simple = refl; stands = refl }
 assigned c (Pointer t) v a = record { has = refl; simple = refl; stands = refl }
 
 assigns : (c : Context) (of : ValueType) (place : Place) (a : Part)
@@ -80,11 +84,12 @@ steps c of operator (StaticPlace k) = stepped c operator of _ _
 steps c of operator (Target t e) = record { has = refl; simple = refl; stands = refl }
 steps c of operator (Element t b i) = record { has = refl; simple = refl; stands = refl }
 
-unary : (c : Context) (operator : UnaryOp) (a : Part) → IsMade int (unary_part c operator a)
-unary c Plus a = record { has = refl; simple = refl; stands = refl }
-unary c Minus a = record { has = refl; simple = refl; stands = refl }
-unary c Complement a = record { has = refl; simple = refl; stands = refl }
-unary c Not a = record { has = refl; simple = refl; stands = refl }
+unary : (c : Context) (of : IntegerType) (operator : UnaryOp) (a : Part)
+    → IsMade (Integer of) (unary_part c of operator a)
+unary c of Plus a = record { has = refl; simple = refl; stands = refl }
+unary c of Minus a = record { has = refl; simple = refl; stands = refl }
+unary c of Complement a = record { has = refl; simple = refl; stands = refl }
+unary c of Not a = record { has = refl; simple = refl; stands = refl }
 
 -- ---- every expression
 
@@ -135,7 +140,7 @@ type-known c (Address t (LocalPlace v)) = refl
 type-known c (Address t (StaticPlace k)) = refl
 type-known c (Address t (Target u e)) = refl
 type-known c (Address t (Element u a i)) = refl
-type-known c (Unary t operator e) = (unary c operator (part_of c e)).has
+type-known c (Unary t operator e) = (unary c t operator (part_of c e)).has
 type-known c (Binary of operator a b) = refl
 type-known c (And a b) = refl
 type-known c (Or a b) = refl
@@ -158,7 +163,7 @@ simple-known c (Address t (LocalPlace v)) = refl
 simple-known c (Address t (StaticPlace k)) = refl
 simple-known c (Address t (Target u e)) = refl
 simple-known c (Address t (Element u a i)) = refl
-simple-known c (Unary t operator e) = (unary c operator (part_of c e)).simple
+simple-known c (Unary t operator e) = (unary c t operator (part_of c e)).simple
 simple-known c (Binary of operator a b) = refl
 simple-known c (And a b) = refl
 simple-known c (Or a b) = refl
@@ -181,7 +186,7 @@ stands-known c (Address t (LocalPlace v)) = refl
 stands-known c (Address t (StaticPlace k)) = refl
 stands-known c (Address t (Target u e)) = refl
 stands-known c (Address t (Element u a i)) = refl
-stands-known c (Unary t operator e) = (unary c operator (part_of c e)).stands
+stands-known c (Unary t operator e) = (unary c t operator (part_of c e)).stands
 stands-known c (Binary of operator a b) = refl
 stands-known c (And a b) = refl
 stands-known c (Or a b) = refl

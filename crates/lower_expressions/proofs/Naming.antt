@@ -4,7 +4,7 @@ use Rattle.std.proofs.Common.{true, false, None}
 use Rattle.std.specs.Prelude.{Bool}
 use Rattle.c_tree.specs.declared.expression.BinaryOp.{BinaryOp}
 use Rattle.c_tree.specs.declared.types.IntegerType.{IntegerType}
-use Rattle.c_tree.specs.declared.types.IntegerType.TheVariants.{Char, Short, Int}
+use Rattle.c_tree.specs.declared.types.IntegerType.TheVariants.{Char, Short, Int, UnsignedInt}
 use Rattle.c_tree.specs.declared.types.ValueType.{ValueType}
 use Rattle.c_tree.specs.declared.types.ValueType.TheVariants.{Void, Integer, Pointer}
 use Rattle.c_tree.specs.Program.{int}
@@ -66,16 +66,24 @@ module _ (c : Context) (o : BinaryOp) (a b : Part) (level : ℕ) (w : Wanted) wh
       → AddsOperand (operand c true b) (suc level) t u → Behind s u
   operands-behind {s} {t} {u} h k = two (λ n. ys n) h k
 
+  -- a value that goes to a local by itself, which is then read again
+  stored-behind : (of : ValueType) (to : Wanted) (v : ℕ) {s u z : Built} → Behind s u
+      → Adds u z (many to + tested_blocks (plain w) of) (at to u.next ++ stored_lines c (u.next + many to) level w of v)
+      → Adds s z (x + y + many to + tested_blocks (plain w) of)
+      ((xs s.next ++ (ys (s.next + x) ++ at to (s.next + x + y)))
+      ++ stored_lines c (s.next + (x + y + many to)) level w of v)
+  stored-behind of to v {s} {u} {z} h k =
+      let S : ℕ → List Line = λ n. stored_lines c n level w of v in
+      let m = many to in
+      let p = tested_blocks (plain w) of in
+      let count : x + y + (m + p) ≡ x + y + m + p = omega arith in
+      counted count (lined (grouped s.next x y m (xs s.next) (ys (s.next + x)) (at to) S)
+      (two (λ n. at to n ++ S (n + m)) h k))
+
   pub assigned-behind : (of : ValueType) (v : ℕ) {s u z : Built} → Behind s u
       → AddsPart (assigned_local c of v (given (result_type of))) level w u z
       → AddsPart (assigned_local c of v (binary_part c (result_type of) o a b)) level w s z
-  assigned-behind Void v {s} {u} {z} h k =
-      let S : ℕ → List Line = λ n. stored_lines c n level w Void v in
-      let m = many Dropped in
-      let p = tested_blocks (plain w) Void in
-      let count : x + y + (m + p) ≡ x + y + m + p = omega arith in
-      counted count (lined (grouped s.next x y m (xs s.next) (ys (s.next + x)) (at Dropped) S)
-      (two (λ n. at Dropped n ++ S (n + m)) h k))
+  assigned-behind Void v h k = stored-behind Void Dropped v h k
   assigned-behind (Integer Char) v {s} {u} {z} h k =
       let S : ℕ → List Line = λ n. Emit (op.Low (local_spot c v).number (own c level).number)
       ∷ stored_lines c n level w (Integer Char) v in
@@ -97,20 +105,9 @@ module _ (c : Context) (o : BinaryOp) (a b : Part) (level : ℕ) (w : Wanted) wh
       ∙ grouped s.next x y m (xs s.next) (ys (s.next + x)) (at Own) (λ n. M n ++ S n)
       ∙ sym (append_assoc (xs s.next ++ (ys (s.next + x) ++ at Own (s.next + x + y))) (M n2) (S n2)))
       (two (λ n. (at Own n ++ M (n + m)) ++ S (n + m)) h k))
-  assigned-behind (Integer Int) v {s} {u} {z} h k =
-      let S : ℕ → List Line = λ n. stored_lines c n level w (Integer Int) v in
-      let m = many (ToLocal v) in
-      let p = tested_blocks (plain w) (Integer Int) in
-      let count : x + y + (m + p) ≡ x + y + m + p = omega arith in
-      counted count (lined (grouped s.next x y m (xs s.next) (ys (s.next + x)) (at (ToLocal v)) S)
-      (two (λ n. at (ToLocal v) n ++ S (n + m)) h k))
-  assigned-behind (Pointer t) v {s} {u} {z} h k =
-      let S : ℕ → List Line = λ n. stored_lines c n level w (Pointer t) v in
-      let m = many (ToLocal v) in
-      let p = tested_blocks (plain w) (Pointer t) in
-      let count : x + y + (m + p) ≡ x + y + m + p = omega arith in
-      counted count (lined (grouped s.next x y m (xs s.next) (ys (s.next + x)) (at (ToLocal v)) S)
-      (two (λ n. at (ToLocal v) n ++ S (n + m)) h k))
+  assigned-behind (Integer Int) v h k = stored-behind int (ToLocal v) v h k
+  assigned-behind (Integer UnsignedInt) v h k = stored-behind (Integer UnsignedInt) (ToLocal v) v h k
+  assigned-behind (Pointer t) v h k = stored-behind (Pointer t) (ToLocal v) v h k
 
   pub object-behind : (t : IntegerType) (k : ℕ) {s u z : Built} → Behind s u
       → AddsPart (assigned_object c t k (given int)) level w u z
@@ -147,6 +144,7 @@ local-free c Void v = refl
 local-free c (Integer Char) v = refl
 local-free c (Integer Short) v = refl
 local-free c (Integer Int) v = refl
+local-free c (Integer UnsignedInt) v = refl
 local-free c (Pointer t) v = refl
 
 -- a static object's value takes no block

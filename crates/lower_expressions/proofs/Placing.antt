@@ -3,7 +3,6 @@ use Rattle.std.proofs.Common.{◌≡◌, ℕ, suc, ◌+◌, List, [], ◌∷◌,
 use Rattle.std.proofs.Common.{true, false, Option, Some, None}
 use Rattle.std.specs.Prelude.{Bool, ◌&&◌}
 use Rattle.std.proofs.lemmas.Option.{none-some}
-use Rattle.c_tree.specs.declared.expression.BinaryOp.{BinaryOp}
 use Rattle.c_tree.specs.declared.expression.StepOp.{StepOp}
 use Rattle.c_tree.specs.declared.types.IntegerType.{IntegerType}
 use Rattle.c_tree.specs.declared.types.ValueType.{ValueType}
@@ -13,19 +12,17 @@ use Rattle.c_tree.specs.Program.{Cast, Assign, Update, Step, Comma, Call, Putcha
 use Rattle.c_tree.specs.Program.{StaticPlace, Target, Element}
 use Rattle.flow_graph.specs.declared.op.Op.TheVariants as op
 use Rattle.lower_builder.specs.Built.{Built, Adds}
-use Rattle.lower_lines.specs.Expressions.{Addressed, Located, AtLocal, AtObject, AtAddress, assign_part}
-use Rattle.lower_lines.specs.Expressions.{assigned_element}
-use Rattle.lower_lines.specs.Expressions.{element_of, old_value, part_of, read_part, step_part, target_of}
-use Rattle.lower_lines.specs.Expressions.{update_part}
+use Rattle.lower_lines.specs.Expressions.{Addressed, Located, AtLocal, AtObject, AtAddress}
+use Rattle.lower_lines.specs.Expressions.{element_of, part_of, read_part, step_part, target_of}
 use Rattle.lower_lines.specs.Lines.{Line, Emit}
-use Rattle.lower_lines.specs.Parts.{Wanted, Own, Part, bits_of, converted_lines, if_stays, made, operand, standing}
+use Rattle.lower_lines.specs.Parts.{Wanted, Own, Part, bits_of, if_stays, made, operand, standing}
 use Rattle.lower_lines.specs.Variables.{Context, Spot}
 use Rattle.lower_builder.specs.Spots.{spot_of}
 use Rattle.lower_builder.specs.declared.spot.Spot as memory
 use Rattle.lower_builder.specs.Views.{AddsOperand, AddsPart}
 use Rattle.lower_builder.proofs.Joined.{counted, lined, two}
 use Rattle.lower_expressions.specs.Finding.{Finds, InLocal, InObject, AtElement}
-use Rattle.lower_expressions.specs.Rows.{element_at, element_lines, renewing, stepping}
+use Rattle.lower_expressions.specs.Rows.{element_at, element_lines, stepping}
 use Rattle.lower_expressions.specs.declared.found.Found.TheVariants as found
 use Rattle.lower_expressions.proofs.Known.{stands-known}
 use Rattle.lower_expressions.proofs.Naming.{local-free, next-to}
@@ -94,56 +91,7 @@ read-element c of t a level w at {s} {u} {v} h e m =
     subst (λ (p : Part). AddsPart p level w s v) (sym (read-element-is c of t a))
     (counted count (two (λ n. M n (a.spot true level)) h m'))
 
--- ---- assigning
-
-assign-element-is : (c : Context) (of : ValueType) (t : IntegerType) (to : Addressed) (a : Part)
-    → assign_part c of (AtAddress t to) a ≡ assigned_element c t to a
-assign-element-is c Void t to a = refl
-assign-element-is c (Integer u) t to a = refl
-assign-element-is c (Pointer u) t to a = refl
-
-pub assign-element : (c : Context) (of : ValueType) (t : IntegerType) (to : Addressed) (a : Part) (level above : ℕ)
-    (w : Wanted) (at x : Spot) {s u v z : Built} → above ≡ level + 1
-    → Adds s u to.blocks (to.lines a.simple s.next level) → at ≡ to.spot a.simple level
-    → AddsOperand (operand c true a) above u v → x ≡ (operand c true a).spot above
-    → Adds v z 0 (Emit (op.Store (bits_of t) at.array at.number x.number)
-    ∷ converted_lines c v.next level w t x.number)
-    → AddsPart (assign_part c of (AtAddress t to) a) level w s z
-assign-element c of t to a level above w at x {s} {u} {v} {z} up h e k f m =
-    let up' : above ≡ suc level = omega (arith, up) in
-    let X = operand c true a in
-    let k' : AddsOperand X (suc level) u v = subst (λ (n : ℕ). AddsOperand X n u v) up' k in
-    let M : ℕ → Spot → Spot → List Line = λ n p q. Emit (op.Store (bits_of t) p.array p.number q.number)
-    ∷ converted_lines c n level w t q.number in
-    let P = to.spot a.simple level in
-    let Q = X.spot (suc level) in
-    let m' : Adds v z 0 (M v.next P Q) =
-    lined (ap (λ p. M v.next p x) e ∙ ap (M v.next P) (f ∙ ap X.spot up')) m in
-    let count : to.blocks + (X.blocks + 0) ≡ to.blocks + X.blocks = omega arith in
-    subst (λ (p : Part). AddsPart p level w s z) (sym (assign-element-is c of t to a))
-    (counted count (two (λ n. X.lines n (suc level) ++ M (n + X.blocks) P Q) h (two (λ n. M n P Q) k' m')))
-
-pub update-element : (c : Context) (of : ValueType) (o : BinaryOp) (t : IntegerType) (to : Addressed) (a : Part)
-    (level above : ℕ) (w : Wanted) (at x : Spot) {s u r v z : Built} → above ≡ level + 1
-    → Adds s u to.blocks (to.lines a.simple s.next level) → at ≡ to.spot a.simple level
-    → Adds u r 0 (Emit (op.Load (bits_of t) (old_value c level) at.array at.number) ∷ [])
-    → AddsOperand (operand c true a) above r v → x ≡ (operand c true a).spot above
-    → Adds v z 0 (renewing c v.next level w t o at x.number)
-    → AddsPart (update_part c of o (AtAddress t to) a) level w s z
-update-element c of o t to a level above w at x {s} {u} {r} {v} {z} up h e l k f m =
-    let up' : above ≡ suc level = omega (arith, up) in
-    let X = operand c true a in
-    let k' : AddsOperand X (suc level) r v = subst (λ (n : ℕ). AddsOperand X n r v) up' k in
-    let L : Spot → Line = λ p. Emit (op.Load (bits_of t) (old_value c level) p.array p.number) in
-    let M : ℕ → Spot → Spot → List Line = λ n p q. renewing c n level w t o p q.number in
-    let P = to.spot a.simple level in
-    let Q = X.spot (suc level) in
-    let m' : Adds v z 0 (M v.next P Q) =
-    lined (ap (λ p. M v.next p x) e ∙ ap (M v.next P) (f ∙ ap X.spot up')) m in
-    let l' : Adds u r 0 (L P ∷ []) = lined (ap (λ p. L p ∷ []) e) l in
-    let N : ℕ → List Line = λ n. X.lines n (suc level) ++ M (n + X.blocks) P Q in
-    let count : to.blocks + (X.blocks + 0) ≡ to.blocks + X.blocks = omega arith in
-    counted count (two (λ n. L P ∷ N n) h (next-to N l' (two (λ n. M n P Q) k' m')))
+-- ---- stepping
 
 pub step-element : (c : Context) (of : ValueType) (o : StepOp) (t : IntegerType) (to : Addressed) (level : ℕ)
     (w : Wanted)

@@ -1,7 +1,7 @@
 -- What is known of an expression before its lines are. The laws that they are those of its part are proved.
 use Rattle.std.specs.Prelude.{ℕ, Bool, true, false, Option, None}
 use Rattle.c_tree.specs.declared.types.IntegerType.{IntegerType}
-use Rattle.c_tree.specs.declared.types.IntegerType.TheVariants.{Char, Short, Int}
+use Rattle.c_tree.specs.declared.types.IntegerType.TheVariants.{Char, Short, Int, UnsignedInt}
 use Rattle.c_tree.specs.declared.types.ValueType.{ValueType}
 use Rattle.c_tree.specs.declared.types.ValueType.TheVariants.{Void, Integer, Pointer}
 use Rattle.c_tree.specs.Program.{int, Expression, Constant, Start, Read, Address, Unary, Binary, And, Or, Conditional}
@@ -23,6 +23,7 @@ value_in Void place = Dropped
 value_in (Integer Char) place = Own
 value_in (Integer Short) place = Own
 value_in (Integer Int) place = ToLocal place
+value_in (Integer UnsignedInt) place = ToLocal place
 value_in (Pointer t) place = ToLocal place
 
 -- the type of the value of a place
@@ -44,7 +45,7 @@ type_in (Constant t n) = Integer t
 type_in (Start t array) = Pointer t
 type_in (Read of place) = place_type of place
 type_in (Address t place) = Pointer t
-type_in (Unary t operator e) = int
+type_in (Unary t operator e) = Integer t
 type_in (Binary of operator a b) = of
 type_in (And a b) = int
 type_in (Or a b) = int

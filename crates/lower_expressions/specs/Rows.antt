@@ -2,7 +2,7 @@
 use Rattle.std.specs.Prelude.{ℕ, suc, List, [], ◌∷◌, ◌++◌, pos, Option, Some, None, option_map, slice_get}
 use Rattle.c_tree.specs.declared.expression.StepOp.{StepOp}
 use Rattle.c_tree.specs.declared.types.ValueType.TheVariants.{Void, Integer, Pointer}
-use Rattle.c_tree.specs.Operators.{step_op}
+use Rattle.c_tree.specs.Operators.{step_op, step_type}
 use Rattle.c_tree.specs.Erased.{expression_of}
 use Rattle.c_tree.specs.Program.{Arguments, NoMore, Argument, Local}
 use Rattle.c_tree.specs.declared.expression.Expression as built
@@ -32,9 +32,9 @@ number_op Complement = op.Not
 number_op Put = op.Putchar
 
 -- an element's new value, from its old one and another number
-abbrev pub renewing : Context → ℕ → ℕ → Wanted → IntegerType → BinaryOp → Spot → ℕ → List Line
-renewing c block level wanted t operator at y =
-    computing c level operator (new_value c level) (old_value c level) y
+abbrev pub renewing : Context → ℕ → ℕ → Wanted → IntegerType → IntegerType → BinaryOp → Spot → ℕ → List Line
+renewing c block level wanted t within operator at y =
+    computing c level within operator (new_value c level) (old_value c level) y
     ++ (Emit (op.Store (bits_of t) at.array at.number (new_value c level))
     ∷ converted_lines c block level wanted t (new_value c level))
 
@@ -55,7 +55,7 @@ stepping c operator block level wanted t at =
     let one = temporary c (suc level) ForNumber in
     Emit (op.Load (bits_of t) (old_value c level) at.array at.number)
     ∷ Emit (op.Const one (pos 1))
-    ∷ (computing c level (step_op operator) (new_value c level) (old_value c level) one
+    ∷ (computing c level (step_type operator (Integer t)) (step_op operator) (new_value c level) (old_value c level) one
     ++ (Emit (op.Store (bits_of t) at.array at.number (new_value c level))
     ∷ step_value c operator block level wanted t))
 

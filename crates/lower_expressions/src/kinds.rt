@@ -64,7 +64,7 @@ fn type_in(e: &Expression) -> ValueType
         Expression::Start(t, _) => ValueType::Pointer(*t),
         Expression::Read(of, place) => place_type(*of, place),
         Expression::Address(t, _) => ValueType::Pointer(*t),
-        Expression::Unary(_, _, _) => ValueType::Integer(IntegerType::Int),
+        Expression::Unary(of, _, _) => ValueType::Integer(*of),
         Expression::Binary(of, _, _, _) => *of,
         Expression::And(_, _) => ValueType::Integer(IntegerType::Int),
         Expression::Or(_, _) => ValueType::Integer(IntegerType::Int),

@@ -113,7 +113,9 @@ pub fn local(
         ValueType::Void => read_local(lines, site, level, wanted, of, local),
         ValueType::Integer(IntegerType::Char) => read_byte(lines, site, level, wanted, local),
         ValueType::Integer(IntegerType::Short) => read_local(lines, site, level, wanted, of, local),
-        ValueType::Integer(IntegerType::Int) => read_local(lines, site, level, wanted, of, local),
+        ValueType::Integer(IntegerType::Int | IntegerType::UnsignedInt) => {
+            read_local(lines, site, level, wanted, of, local)
+        }
         ValueType::Pointer(_) => read_local(lines, site, level, wanted, of, local),
     }
 }
@@ -137,7 +139,7 @@ pub(crate) fn local_stands(site: &Site<'_>, of: ValueType, local: u32) -> Option
         ValueType::Integer(IntegerType::Char) => None,
         ValueType::Void => Some(site.spot(local)),
         ValueType::Integer(IntegerType::Short) => Some(site.spot(local)),
-        ValueType::Integer(IntegerType::Int) => Some(site.spot(local)),
+        ValueType::Integer(IntegerType::Int | IntegerType::UnsignedInt) => Some(site.spot(local)),
         ValueType::Pointer(_) => Some(site.spot(local)),
     }
 }

@@ -1,7 +1,8 @@
 //! Names that are assigned to, updated and stepped (C99 6.5.16, 6.5.2.4 and 6.5.3.1).
 
 ghost use Rattle.std.specs.Prelude.{◌≡◌, ◌+◌, IfOk, OnOk, suc};
-ghost use Rattle.c_tree.specs.Operators.{step_op};
+ghost use Rattle.c_tree.specs.declared.types.ValueType.TheVariants.{Integer};
+ghost use Rattle.c_tree.specs.Operators.{step_op, step_type};
 ghost use Rattle.c_tree.specs.Program.{int};
 ghost use Rattle.lower_builder.specs.Built.{Adds};
 ghost use Rattle.lower_lines.specs.Expressions.{assigned_local, assigned_object};
@@ -20,6 +21,7 @@ ghost use Rattle.lower_expressions.specs.Kinds.{value_in};
 use crate::kinds::number_type;
 use crate::leaves::{constant, local, local_operand};
 use crate::operands::{byte_set, narrow_made, put, stored};
+use c_operators::{Operator, numbers_type};
 use c_tree::{BinaryOp, IntegerType, StepOp, ValueType};
 use lower_builder::{Lines, Site, Spot, Wanted, applied, delivered, object, plus};
 use pcc_base::NoMemory;
@@ -31,7 +33,9 @@ fn value_in(of: ValueType, place: u32) -> Wanted
     match of {
         ValueType::Void => Wanted::Dropped,
         ValueType::Integer(IntegerType::Char | IntegerType::Short) => Wanted::Own,
-        ValueType::Integer(IntegerType::Int) | ValueType::Pointer(_) => Wanted::ToLocal(place),
+        ValueType::Integer(IntegerType::Int | IntegerType::UnsignedInt) | ValueType::Pointer(_) => {
+            Wanted::ToLocal(place)
+        }
     }
 }
 
@@ -79,9 +83,9 @@ pub fn set_local(
             )?;
             stored(lines, site, level, wanted, of, place)
         }
-        ValueType::Integer(IntegerType::Int) | ValueType::Pointer(_) | ValueType::Void => {
-            stored(lines, site, level, wanted, of, place)
-        }
+        ValueType::Integer(IntegerType::Int | IntegerType::UnsignedInt)
+        | ValueType::Pointer(_)
+        | ValueType::Void => stored(lines, site, level, wanted, of, place),
     }
 }
 
@@ -125,6 +129,18 @@ pub(crate) fn step_op(operator: StepOp) -> BinaryOp
     match operator {
         StepOp::PreIncrement | StepOp::PostIncrement => BinaryOp::Add,
         StepOp::PreDecrement | StepOp::PostDecrement => BinaryOp::Subtract,
+    }
+}
+
+/// That operator, in the type that it works in on an element.
+pub(crate) fn step_operator(operator: StepOp, t: IntegerType) -> Operator
+    ensures op { result.op ≡ step_op operator }
+    ensures within { result.within ≡ step_type operator (Integer t) }
+{
+    let op = step_op(operator);
+    Operator {
+        op,
+        within: numbers_type(op, t, IntegerType::Int),
     }
 }
 

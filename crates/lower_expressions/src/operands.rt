@@ -19,7 +19,8 @@ ghost use Rattle.lower_builder.specs.Views.{AddsPart};
 ghost use Rattle.lower_expressions.specs.Rows.{number_op, renewing};
 
 use crate::leaves::local;
-use c_tree::{BinaryOp, IntegerType, ValueType};
+use c_operators::Operator;
+use c_tree::{IntegerType, ValueType};
 use flow_graph::Op;
 use lower_builder::{
     Lines, Site, Spot, Wanted, bits_of, computing, converting, copied, number_test, plus, target,
@@ -249,12 +250,12 @@ pub(crate) fn renewed(
     site: &Site<'_>,
     level: u32,
     t: IntegerType,
-    operator: BinaryOp,
+    operator: Operator,
     at: Spot,
     y: u32,
 ) -> Result<u32, NoMemory>
     ensures adds { IfOk result (λ _. Adds lines.old lines.new 0
-        (computing (context_of site.now) level operator (new_value (context_of site.now) level)
+        (computing (context_of site.now) level operator.within operator.op (new_value (context_of site.now) level)
         (old_value (context_of site.now) level) y
         ++ Emit (op.Store (bits_of t) at.array at.number (new_value (context_of site.now) level)) ∷ [])) }
     ensures new { IfOk result (λ new. new ≡ new_value (context_of site.now) level) }
@@ -274,12 +275,13 @@ pub(crate) fn renew(
     level: u32,
     wanted: Wanted,
     t: IntegerType,
-    operator: BinaryOp,
+    operator: Operator,
     at: Spot,
     y: u32,
 ) -> Result<(), NoMemory>
     ensures { OnOk result (Adds lines.old lines.new 0
-        (renewing (context_of site.now) lines.old.next level (wanted_of wanted) t operator (spot_of at) y)) }
+        (renewing (context_of site.now) lines.old.next level (wanted_of wanted) t operator.within operator.op
+        (spot_of at) y)) }
 {
     let new = renewed(lines, site, level, t, operator, at, y)?;
     converted(lines, site, level, wanted, t, new)

@@ -36,7 +36,9 @@ fn parameter(
             lines.emit(Op::Param(own, word))?;
             lines.emit(Op::Low16(spot.number, own))
         }
-        ValueType::Integer(IntegerType::Int) => lines.emit(Op::Param(spot.number, word)),
+        ValueType::Integer(IntegerType::Int | IntegerType::UnsignedInt) => {
+            lines.emit(Op::Param(spot.number, word))
+        }
         ValueType::Pointer(_) => {
             let second = plus(word, 1)?;
             lines.emit(Op::Param(spot.array, word))?;

@@ -18,7 +18,7 @@ ghost use Rattle.lower_expressions.specs.Rows.{element_at, element_lines, steppi
 use crate::found::Found;
 use crate::kinds::number_type;
 use crate::leaves::local;
-use crate::names::{step_local, step_object, step_op};
+use crate::names::{step_local, step_object, step_operator};
 use crate::operands::{converted, element_sum, load_old, loaded, renewed};
 use c_tree::{IntegerType, StepOp, ValueType};
 use flow_graph::Op;
@@ -170,7 +170,7 @@ pub(crate) fn step_element(
 {
     load_old(lines, site, level, t, at)?;
     let y = one(lines, site, level)?;
-    renewed(lines, site, level, t, step_op(operator), at, y)?;
+    renewed(lines, site, level, t, step_operator(operator, t), at, y)?;
     step_value(lines, site, level, wanted, t, operator)
 }
 

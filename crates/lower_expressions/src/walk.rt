@@ -1,6 +1,7 @@
 //! The walk over a typed expression, which puts the lines of each part behind those of the parts before it.
 
 ghost use Rattle.std.specs.Prelude.{◌≡◌, ◌∷◌, ◌++◌, true, IfOk, OnOk, slice_get};
+ghost use Rattle.c_tree.specs.declared.types.IntegerType.TheVariants.{Int};
 ghost use Rattle.c_tree.specs.Erased.{expression_of, place_of};
 ghost use Rattle.lower_builder.specs.Built.{Adds, Built};
 ghost use Rattle.lower_lines.specs.Expressions.{address_part, all_passed, assign_part, assigned_local, call_part};
@@ -31,6 +32,7 @@ use crate::operands::{
 };
 use crate::places::{element_at, read_found, step_found};
 use crate::ways::{Ways, end_ways, join, open_ways, own_blocks, start_joined};
+use c_operators::{Operator, working_type};
 use c_tree::{ArrayRef, BinaryOp, Expression, IntegerType, Place, UnaryOp, ValueType};
 use flow_graph::Words;
 use lower_builder::{
@@ -253,7 +255,9 @@ pub fn typed(
 {
     match to {
         ValueType::Void => emit(lines, site, level, Wanted::Dropped, e),
-        ValueType::Integer(IntegerType::Int) => emit(lines, site, level, wanted, e),
+        ValueType::Integer(IntegerType::Int | IntegerType::UnsignedInt) => {
+            emit(lines, site, level, wanted, e)
+        }
         ValueType::Integer(t) => {
             let x = stood(lines, site, level, true, e)?;
             narrow_made(lines, site, level, wanted, t, x.number)
@@ -286,7 +290,7 @@ fn in_own(
     Ok(own)
 }
 
-/// `+`, `-`, `~` and `!` (C99 6.5.3.3).
+/// `+`, `-`, `~` and `!` (C99 6.5.3.3); no line asks for the type of what they give.
 #[cycle(emit)]
 fn unary(
     lines: &mut Lines,
@@ -296,7 +300,7 @@ fn unary(
     operator: UnaryOp,
     e: &Expression,
 ) -> Result<(), NoMemory>
-    ensures { OnOk result (AddsPart (unary_part (context_of site.now) operator
+    ensures { OnOk result (AddsPart (unary_part (context_of site.now) Int operator
         (part_of (context_of site.now) (expression_of e.now))) level (wanted_of wanted) lines.old lines.new) }
 {
     match operator {
@@ -476,6 +480,10 @@ fn update(
         Found::Element(t, at) => {
             load_old(lines, site, level, t, at)?;
             let y = stood(lines, site, above, true, e)?;
+            let operator = Operator {
+                op: operator,
+                within: working_type(operator, ValueType::Integer(t), part_type(e)),
+            };
             renew(lines, site, level, wanted, t, operator, at, y.number)
         }
     }
@@ -552,7 +560,9 @@ pub fn returned(
         (in_type (context_of site.now) to (part_of (context_of site.now) (expression_of e.now)))).spot 0).number) }
 {
     let x = match to {
-        ValueType::Integer(IntegerType::Int) => stood(lines, site, 0, true, e),
+        ValueType::Integer(IntegerType::Int | IntegerType::UnsignedInt) => {
+            stood(lines, site, 0, true, e)
+        }
         ValueType::Pointer(_) => argument(lines, site, 0, true, Some(to), e),
         ValueType::Void | ValueType::Integer(_) => in_own(lines, site, 0, to, e),
     }?;

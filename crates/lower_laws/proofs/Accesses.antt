@@ -5,7 +5,7 @@ use Rattle.pcc_base.specs.declared.run.Trap.TheVariants.{Check}
 use Rattle.pcc_base.specs.Outcome.{ArrayName, Null, Static, InFrame, Unknown, Outcome, Trapped}
 use Rattle.pcc_base.specs.Outcome.{Number}
 use Rattle.c_tree.specs.declared.types.IntegerType.{IntegerType}
-use Rattle.c_tree.specs.declared.types.IntegerType.TheVariants.{Char, Short, Int}
+use Rattle.c_tree.specs.declared.types.IntegerType.TheVariants.{Char, Short, Int, UnsignedInt}
 use Rattle.c_tree.specs.declared.types.ValueType.TheVariants.{Pointer}
 use Rattle.c_tree.specs.Program.{Function}
 use Rattle.c_tree.specs.Store as source
@@ -61,6 +61,7 @@ pub stored-is : (t : IntegerType) (n : ℤ) → stored (bits_of t) n ≡ convert
 stored-is Char n = refl
 stored-is Short n = refl
 stored-is Int n = refl
+stored-is UnsignedInt n = refl
 
 -- an element of null isn't there
 null-none : (u : source.State) (array : ArrayName) (index n : ℤ) → array ≡ Null

@@ -6,7 +6,7 @@ use Rattle.std.specs.Prelude.{◌&&◌}
 use Rattle.std.specs.List.{AllByRecursion}
 use Rattle.c_tree.specs.declared.expression.BinaryOp.TheVariants.{Add}
 use Rattle.c_tree.specs.declared.types.IntegerType.{IntegerType}
-use Rattle.c_tree.specs.declared.types.IntegerType.TheVariants.{Char, Short, Int}
+use Rattle.c_tree.specs.declared.types.IntegerType.TheVariants.{Char, Short, Int, UnsignedInt}
 use Rattle.c_tree.specs.declared.types.ValueType.{ValueType}
 use Rattle.c_tree.specs.declared.types.ValueType.TheVariants.{Void, Integer, Pointer}
 use Rattle.c_tree.specs.WellTyped.{BinaryGives, IsResult}
@@ -24,6 +24,7 @@ use Rattle.lower_lines.specs.Parts.{converted_lines, operand, standing, target, 
 use Rattle.lower_lines.specs.Variables.{Context, ForArray, ForNumber, Spot, copied, local_spot, local_variables, own}
 use Rattle.lower_lines.specs.Variables.{temporary}
 use Rattle.lower_lines.proofs.Constructs.{local-type}
+use Rattle.lower_laws.proofs.Pieces.{LinesGive, lines-give}
 use Rattle.lower_laws.proofs.FitsCompound.{Becomes}
 use Rattle.lower_laws.specs.Flows.{Within}
 use Rattle.lower_laws.proofs.Applied.{Free, LowTarget, Settled, none-agrees}
@@ -206,7 +207,8 @@ module _ (c : Context) (D : List ℕ) (low-known : (v : ℕ) → IsIn v D → v 
                   (held-good a p block level S k (p.spot level).array first)) (held-good a p block level S k);
             };
         value = binary-part c D low-known (Pointer element) Add a b
-            (subst (λ (s : ValueType). BinaryGives Add s b.of (Pointer element)) (sym e) gives) ha hb;
+            (subst (λ (s : ValueType). LinesGive Add s b.of (Pointer element)) (sym e)
+            (lines-give Add (Pointer t) b.of (Pointer element) gives)) ha hb;
         pointer = (element, refl);
       }
   element-address element (Integer t) a b e gives ha hb =
@@ -234,7 +236,8 @@ module _ (c : Context) (D : List ℕ) (low-known : (v : ℕ) → IsIn v D → v 
                   (held-good a p block level S k);
             };
         value = binary-part c D low-known (Pointer element) Add a b
-            (subst (λ (s : ValueType). BinaryGives Add s b.of (Pointer element)) (sym e) gives) ha hb;
+            (subst (λ (s : ValueType). LinesGive Add s b.of (Pointer element)) (sym e)
+            (lines-give Add (Integer t) b.of (Pointer element) gives)) ha hb;
         pointer = (element, refl);
       }
   element-address element Void a b e gives ha hb = absurd gives
@@ -298,6 +301,7 @@ module _ (c : Context) (D : List ℕ) (low-known : (v : ℕ) → IsIn v D → v 
       same-blocks (Integer Char) (Tests holds fails) = refl
       same-blocks (Integer Short) w = refl
       same-blocks (Integer Int) w = refl
+      same-blocks (Integer UnsignedInt) w = refl
       same-blocks (Pointer t) w = refl
 
       read : (w : Wanted) → LowTarget c w of
@@ -390,6 +394,12 @@ module _ (c : Context) (D : List ℕ) (low-known : (v : ℕ) → IsIn v D → v 
   }
   assigned-local (Integer Int) k h a turns ha = record {
     settles = wide-assigned (Integer Int) k h a turns ha;
+    stands = λ s e. absurd (cc);
+    quiet = λ s e. absurd (cc);
+    tests = λ holds fails. refl;
+  }
+  assigned-local (Integer UnsignedInt) k h a turns ha = record {
+    settles = wide-assigned (Integer UnsignedInt) k h a turns ha;
     stands = λ s e. absurd (cc);
     quiet = λ s e. absurd (cc);
     tests = λ holds fails. refl;

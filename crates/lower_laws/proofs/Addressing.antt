@@ -1,13 +1,14 @@
 -- The address of `a[i]`, as a value.
-use Rattle.std.proofs.Common.{◌≡◌, ◌∙◌, Bool, true, false, List, Option, Some, None, refl, sym, subst}
+use Rattle.std.proofs.Common.{◌≡◌, ◌∙◌, Bool, true, false, List, Option, Some, None, refl, sym, ap, subst}
 use Rattle.c_tree.specs.declared.expression.BinaryOp.TheVariants.{Add}
 use Rattle.c_tree.specs.declared.types.IntegerType.{IntegerType}
+use Rattle.c_tree.specs.declared.types.IntegerType.TheVariants.{Int}
 use Rattle.c_tree.specs.declared.types.ValueType.{ValueType}
 use Rattle.c_tree.specs.declared.types.ValueType.TheVariants.{Integer, Pointer}
 use Rattle.c_tree.specs.Evaluation as evaluation
 use Rattle.c_tree.specs.Evaluation.{address_of, computed, evaluate}
-use Rattle.c_tree.specs.Operators.{binary_value}
-use Rattle.c_tree.specs.Program.{Address, Binary, Element, Expression, Function}
+use Rattle.c_tree.specs.Operators.{Computed, binary_value, working_type}
+use Rattle.c_tree.specs.Program.{Address, Binary, Element, Expression, Function, value_type}
 use Rattle.c_tree.specs.Store as source
 use Rattle.c_tree.specs.Store.{Evaluated, Gives, Ends, Held, HoldsNumber, HoldsPointer, and_then}
 use Rattle.lower_lines.specs.Expressions.{AtAddress, address_part, element_of, part_of}
@@ -32,19 +33,28 @@ third-same : (r : Evaluated Held)
 third-same (Gives v w) = refl
 third-same (Ends end w) = refl
 
-second-same : (x : Held) (r : Evaluated Held)
-    → and_then (and_then r (λ y u. and_then (computed (binary_value Add x y) u)
-    (λ v w. Gives (evaluation.target_of v) w))) (λ found w. Gives (address_of found) w)
-    ≡ again (and_then r (λ y u. computed (binary_value Add x y) u))
-second-same x (Gives y u) = third-same (computed (binary_value Add x y) u)
-second-same x (Ends end u) = refl
+-- a sum is the same in any type
+sum-same : (within : IntegerType) (x y : Held) → binary_value Int Add x y ≡ binary_value within Add x y
+sum-same within (HoldsNumber m) (HoldsNumber n) = refl
+sum-same within (HoldsNumber m) (HoldsPointer array index) = refl
+sum-same within (HoldsPointer array index) (HoldsNumber n) = refl
+sum-same within (HoldsPointer array index) (HoldsPointer other place) = refl
 
-first-same : (r : Evaluated Held) (run : source.State → Evaluated Held)
-    → and_then (and_then r (λ x t. and_then (run t) (λ y u. and_then (computed (binary_value Add x y) u)
+second-same : (within : IntegerType) (x : Held) (r : Evaluated Held)
+    → and_then (and_then r (λ y u. and_then (computed (binary_value Int Add x y) u)
+    (λ v w. Gives (evaluation.target_of v) w))) (λ found w. Gives (address_of found) w)
+    ≡ again (and_then r (λ y u. computed (binary_value within Add x y) u))
+second-same within x (Gives y u) =
+    third-same (computed (binary_value Int Add x y) u)
+    ∙ ap (λ (c : Computed). again (computed c u)) (sum-same within x y)
+second-same within x (Ends end u) = refl
+
+first-same : (within : IntegerType) (r : Evaluated Held) (run : source.State → Evaluated Held)
+    → and_then (and_then r (λ x t. and_then (run t) (λ y u. and_then (computed (binary_value Int Add x y) u)
     (λ v w. Gives (evaluation.target_of v) w)))) (λ found w. Gives (address_of found) w)
-    ≡ again (and_then r (λ x t. and_then (run t) (λ y u. computed (binary_value Add x y) u)))
-first-same (Gives x t) run = second-same x (run t)
-first-same (Ends end t) run = refl
+    ≡ again (and_then r (λ x t. and_then (run t) (λ y u. computed (binary_value within Add x y) u)))
+first-same within (Gives x t) run = second-same within x (run t)
+first-same within (Ends end t) run = refl
 
 -- what is a pointer, and then its address again
 lowers-again : (S : Site) (part : Part) (t : IntegerType) (run run' : source.State → Evaluated Held)
@@ -87,7 +97,7 @@ of-sum S a b t p same of lowers =
     (subst (λ (part : Part). Lowers S part (evaluate S.calls (Address t (Element t a b)))) (sym same)
     (lowers-again S (part_of (context_of S) (Binary (Pointer t) Add a b)) t
     (evaluate S.calls (Binary (Pointer t) Add a b)) (evaluate S.calls (Address t (Element t a b))) refl
-    (λ s. first-same (evaluate S.calls a s) (evaluate S.calls b)) refl refl lowers))
+    (λ s. first-same (working_type Add (value_type a) (value_type b)) (evaluate S.calls a s) (evaluate S.calls b)) refl refl lowers))
 
 pub indexes-addressed : IndexesAreAddressed
 indexes-addressed S site a b t la of u lb of' =

@@ -1,6 +1,7 @@
 -- Sets of the lines of operators on values that stand in variables.
 use Rattle.std.proofs.Common.{◌≡◌, ◌≢◌, ◌<◌, ℕ, List, [], ◌∷◌, ◌++◌}
 use Rattle.std.proofs.Common.{Option, Some, None, inl, inr, refl, sym, ap, ◌∙◌, subst, arith}
+use Rattle.std.proofs.lemmas.Bool.{cond_both}
 use Rattle.c_tree.specs.declared.expression.BinaryOp.{BinaryOp}
 use Rattle.c_tree.specs.declared.expression.BinaryOp.TheVariants.{Multiply, Divide, Remainder, Add, Subtract}
 use Rattle.c_tree.specs.declared.expression.BinaryOp.TheVariants.{ShiftLeft}
@@ -11,22 +12,30 @@ use Rattle.c_tree.specs.declared.types.IntegerType.{IntegerType}
 use Rattle.c_tree.specs.declared.types.IntegerType.TheVariants.{Int}
 use Rattle.c_tree.specs.declared.types.ValueType.{ValueType}
 use Rattle.c_tree.specs.declared.types.ValueType.TheVariants.{Void, Integer, Pointer}
+use Rattle.c_tree.specs.Operators.{is_signed, numbers_type}
 use Rattle.c_tree.specs.Program.{int}
 use Rattle.c_tree.specs.WellTyped.{BinaryGives}
-use Rattle.flow_graph.specs.declared.op.Comparison.{Comparison}
 use Rattle.flow_graph.specs.declared.op.Comparison.TheVariants.{Eq, Ne, Lt, Le, Gt, Ge}
+use Rattle.flow_graph.specs.declared.op.Op.{Op}
 use Rattle.flow_graph.specs.declared.op.Op.TheVariants as op
+use Rattle.flow_graph.specs.declared.op.Order.TheVariants as order
 use Rattle.flow_graph.specs.Graphs.{IsIn}
+use Rattle.flow_graph.specs.Kinds.{marked}
+use Rattle.flow_graph.specs.Liveness.{defined, uses}
 use Rattle.lower_lines.specs.Expressions.{words_of}
 use Rattle.lower_lines.specs.Lines.{Line, Start, Emit}
-use Rattle.lower_lines.specs.Operators.{applied, applied_blocks, branching, comparison_of, computing, equality_test}
+use Rattle.lower_lines.specs.Operators.{NumberTest, WithSigns, WithoutSigns, applied, applied_blocks, branching}
+use Rattle.lower_lines.specs.Operators.{computing, equality_test, order_in, quotient_op, remainder_op, right_shift_op}
+use Rattle.lower_lines.specs.Operators.{test_of, test_set}
 use Rattle.lower_lines.specs.Operators.{on_numbers, on_pointer, on_pointer_blocks, on_pointers, on_pointers_blocks}
 use Rattle.lower_lines.specs.Parts.{Wanted, Dropped, Own, ToLocal, Tests, chosen, chosen_blocks, made, pointer_test}
 use Rattle.lower_lines.specs.Parts.{target, tested_blocks}
 use Rattle.lower_lines.specs.Variables.{Context, ForByte, ForScratch, Spot, copied, local_spot}
 use Rattle.lower_lines.specs.Variables.{local_variables, own, temporary}
-use Rattle.lower_laws.specs.Flows.{Within}
+use Rattle.lower_laws.specs.Flows.{Within, fixed, targets}
 pub use Rattle.lower_laws.specs.Settled.{LowTarget, Settled}
+use Rattle.lower_laws.proofs.Pieces.{LinesGive}
+use Rattle.lower_laws.proofs.Types.{integer-of}
 use Rattle.lower_laws.proofs.Sets.{Agrees, F, Goes, TestFlows, block-is, chosen-flows, chosen-size, chosen_sets}
 use Rattle.lower_laws.proofs.Sets.{copied-flows, ends, flows-then, keeps, made-flows, one-in, pointer-tests}
 use Rattle.lower_laws.proofs.Sets.{reached, starts, swapped, tested-size, tested_sets, two-in, uses-up, ways}
@@ -57,62 +66,99 @@ module _ (c : Context) where
   target-free level (Tests holds fails) low = own-free level
 
   module _ (B : ℕ → List ℕ) where
-    pub computing-flows : (level : ℕ) (operator : BinaryOp) (to x y : ℕ) (S : List ℕ) → IsIn x S → IsIn y S
-        → AllFree level S → Free level to → F c B S (computing c level operator to x y) (to ∷ S)
-    computing-flows level Multiply to x y S h k free to-free =
+    set-flows : (test : NumberTest) (to x y : ℕ) (S : List ℕ) → IsIn x S → IsIn y S
+        → F c B S (Emit (test_set test to x y) ∷ []) (to ∷ S)
+    set-flows (WithSigns how) to x y S h k =
+        writes c B (op.Set how to x y) to S (to ∷ S) [] (refl, refl, refl) refl (two-in S x y h k) (λ v is. is)
+    set-flows (WithoutSigns how) to x y S h k =
+        writes c B (op.Setu how to x y) to S (to ∷ S) [] (refl, refl, refl) refl (two-in S x y h k) (λ v is. is)
+
+    -- an op that gives a number, and uses up the first of its operands that the rows of registers fix
+    abbrev UsesUp : ℕ → ℕ → ℕ → List ℕ → Op → Type 0
+    UsesUp d k a used i =
+        (defined i ≡ Some d) × (fixed i ≡ Some (k, a)) × (marked i ≡ None) × (targets i ≡ []) × (uses i ≡ used)
+
+    -- a copy of the dividend, which is used up
+    divided : (level : ℕ) (i : Op) (to x y : ℕ) (S : List ℕ)
+        → UsesUp to (temporary c level ForScratch) y (temporary c level ForScratch ∷ y ∷ []) i → IsIn x S → IsIn y S
+        → AllFree level S → Free level to
+        → F c B S (Emit (op.Copy (temporary c level ForScratch) x) ∷ Emit i ∷ []) (to ∷ S)
+    divided level i to x y S (e, f, m, t, u) h k free to-free =
+        let z = temporary c level ForScratch in
+        writes c B (op.Copy z x) z S (to ∷ S) (Emit i ∷ []) (refl, refl, refl) refl (one-in S x h)
+        (uses-up c B i to z y S (to ∷ S) [] e f m t (λ e. (free y k).0 (sym e)) (λ e. to-free.0 (sym e))
+        (λ is. (free z is).0 refl)
+        (subst (λ (used : List ℕ). Within used (z ∷ S)) (sym u) (two-in (z ∷ S) z y (inl refl) (inr k))) (λ v is. is))
+
+    -- the byte with the count, which is used up
+    shifted : (level : ℕ) (i : Op) (to x y : ℕ) (S : List ℕ)
+        → UsesUp to (temporary c level ForByte) x (x ∷ temporary c level ForByte ∷ []) i → IsIn x S → IsIn y S
+        → AllFree level S → Free level to
+        → F c B S (Emit (op.Low (temporary c level ForByte) y) ∷ Emit i ∷ []) (to ∷ S)
+    shifted level i to x y S (e, f, m, t, u) h k free to-free =
+        let z = temporary c level ForByte in
+        writes c B (op.Low z y) z S (to ∷ S) (Emit i ∷ []) (refl, refl, refl) refl (one-in S y k)
+        (uses-up c B i to z x S (to ∷ S) [] e f m t (λ e. (free x h).1 (sym e)) (λ e. to-free.1 (sym e))
+        (λ is. (free z is).1 refl)
+        (subst (λ (used : List ℕ). Within used (z ∷ S)) (sym u) (two-in (z ∷ S) x z (inr h) (inl refl))) (λ v is. is))
+
+    pub computing-flows : (level : ℕ) (within : IntegerType) (operator : BinaryOp) (to x y : ℕ) (S : List ℕ) → IsIn x S
+        → IsIn y S → AllFree level S → Free level to
+        → F c B S (computing c level within operator to x y) (to ∷ S)
+    computing-flows level within Multiply to x y S h k free to-free =
         writes c B (op.Mul to x y) to S (to ∷ S) [] (refl, refl, refl) refl (two-in S x y h k) (λ v is. is)
-    computing-flows level Divide to x y S h k free to-free =
+    computing-flows level within Divide to x y S h k free to-free =
         let z = temporary c level ForScratch in
-        writes c B (op.Copy z x) z S (to ∷ S) (Emit (op.Div to z y) ∷ []) (refl, refl, refl) refl (one-in S x h)
-        (uses-up c B (op.Div to z y) to z y S (to ∷ S) [] refl refl refl refl (λ e. (free y k).0 (sym e))
-        (λ e. to-free.0 (sym e)) (λ is. (free z is).0 refl) (two-in (z ∷ S) z y (inl refl) (inr k)) (λ v is. is))
-    computing-flows level Remainder to x y S h k free to-free =
+        divided level (quotient_op within to z y) to x y S
+        (cond_both (is_signed within) _ _ (UsesUp to z y (z ∷ y ∷ [])) (λ _. (refl, refl, refl, refl, refl))
+        (λ _. (refl, refl, refl, refl, refl))) h k free to-free
+    computing-flows level within Remainder to x y S h k free to-free =
         let z = temporary c level ForScratch in
-        writes c B (op.Copy z x) z S (to ∷ S) (Emit (op.Rem to z y) ∷ []) (refl, refl, refl) refl (one-in S x h)
-        (uses-up c B (op.Rem to z y) to z y S (to ∷ S) [] refl refl refl refl (λ e. (free y k).0 (sym e))
-        (λ e. to-free.0 (sym e)) (λ is. (free z is).0 refl) (two-in (z ∷ S) z y (inl refl) (inr k)) (λ v is. is))
-    computing-flows level Add to x y S h k free to-free =
+        divided level (remainder_op within to z y) to x y S
+        (cond_both (is_signed within) _ _ (UsesUp to z y (z ∷ y ∷ [])) (λ _. (refl, refl, refl, refl, refl))
+        (λ _. (refl, refl, refl, refl, refl))) h k free to-free
+    computing-flows level within Add to x y S h k free to-free =
         writes c B (op.Add to x y) to S (to ∷ S) [] (refl, refl, refl) refl (two-in S x y h k) (λ v is. is)
-    computing-flows level Subtract to x y S h k free to-free =
+    computing-flows level within Subtract to x y S h k free to-free =
         writes c B (op.Sub to x y) to S (to ∷ S) [] (refl, refl, refl) refl (two-in S x y h k) (λ v is. is)
-    computing-flows level ShiftLeft to x y S h k free to-free =
+    computing-flows level within ShiftLeft to x y S h k free to-free =
+        shifted level (op.Shl to x (temporary c level ForByte)) to x y S (refl, refl, refl, refl, refl) h k free to-free
+    computing-flows level within ShiftRight to x y S h k free to-free =
         let z = temporary c level ForByte in
-        writes c B (op.Low z y) z S (to ∷ S) (Emit (op.Shl to x z) ∷ []) (refl, refl, refl) refl (one-in S y k)
-        (uses-up c B (op.Shl to x z) to z x S (to ∷ S) [] refl refl refl refl (λ e. (free x h).1 (sym e))
-        (λ e. to-free.1 (sym e)) (λ is. (free z is).1 refl) (two-in (z ∷ S) x z (inr h) (inl refl)) (λ v is. is))
-    computing-flows level ShiftRight to x y S h k free to-free =
-        let z = temporary c level ForByte in
-        writes c B (op.Low z y) z S (to ∷ S) (Emit (op.Sar to x z) ∷ []) (refl, refl, refl) refl (one-in S y k)
-        (uses-up c B (op.Sar to x z) to z x S (to ∷ S) [] refl refl refl refl (λ e. (free x h).1 (sym e))
-        (λ e. to-free.1 (sym e)) (λ is. (free z is).1 refl) (two-in (z ∷ S) x z (inr h) (inl refl)) (λ v is. is))
-    computing-flows level Less to x y S h k free to-free =
-        writes c B (op.Set Lt to x y) to S (to ∷ S) [] (refl, refl, refl) refl (two-in S x y h k) (λ v is. is)
-    computing-flows level Greater to x y S h k free to-free =
-        writes c B (op.Set Gt to x y) to S (to ∷ S) [] (refl, refl, refl) refl (two-in S x y h k) (λ v is. is)
-    computing-flows level LessOrEqual to x y S h k free to-free =
-        writes c B (op.Set Le to x y) to S (to ∷ S) [] (refl, refl, refl) refl (two-in S x y h k) (λ v is. is)
-    computing-flows level GreaterOrEqual to x y S h k free to-free =
-        writes c B (op.Set Ge to x y) to S (to ∷ S) [] (refl, refl, refl) refl (two-in S x y h k) (λ v is. is)
-    computing-flows level Equal to x y S h k free to-free =
+        shifted level (right_shift_op within to x z) to x y S
+        (cond_both (is_signed within) _ _ (UsesUp to z x (x ∷ z ∷ [])) (λ _. (refl, refl, refl, refl, refl))
+        (λ _. (refl, refl, refl, refl, refl))) h k free to-free
+    computing-flows level within Less to x y S h k free to-free =
+        set-flows (order_in within Lt order.Lt) to x y S h k
+    computing-flows level within Greater to x y S h k free to-free =
+        set-flows (order_in within Gt order.Gt) to x y S h k
+    computing-flows level within LessOrEqual to x y S h k free to-free =
+        set-flows (order_in within Le order.Le) to x y S h k
+    computing-flows level within GreaterOrEqual to x y S h k free to-free =
+        set-flows (order_in within Ge order.Ge) to x y S h k
+    computing-flows level within Equal to x y S h k free to-free =
         writes c B (op.Set Eq to x y) to S (to ∷ S) [] (refl, refl, refl) refl (two-in S x y h k) (λ v is. is)
-    computing-flows level NotEqual to x y S h k free to-free =
+    computing-flows level within NotEqual to x y S h k free to-free =
         writes c B (op.Set Ne to x y) to S (to ∷ S) [] (refl, refl, refl) refl (two-in S x y h k) (λ v is. is)
-    computing-flows level BitAnd to x y S h k free to-free =
+    computing-flows level within BitAnd to x y S h k free to-free =
         writes c B (op.And to x y) to S (to ∷ S) [] (refl, refl, refl) refl (two-in S x y h k) (λ v is. is)
-    computing-flows level BitXor to x y S h k free to-free =
+    computing-flows level within BitXor to x y S h k free to-free =
         writes c B (op.Xor to x y) to S (to ∷ S) [] (refl, refl, refl) refl (two-in S x y h k) (λ v is. is)
-    computing-flows level BitOr to x y S h k free to-free =
+    computing-flows level within BitOr to x y S h k free to-free =
         writes c B (op.Or to x y) to S (to ∷ S) [] (refl, refl, refl) refl (two-in S x y h k) (λ v is. is)
 
-    branching-flows : (level : ℕ) (how : Option Comparison) (w : Wanted) (otherwise : List Line) (x y : ℕ) (S : List ℕ)
+    branching-flows : (level : ℕ) (test : Option NumberTest) (w : Wanted) (otherwise : List Line) (x y : ℕ) (S : List ℕ)
         → IsIn x S → IsIn y S → Goes c B w S → F c B S otherwise (reached c level w int S)
-        → F c B S (branching how w otherwise x y) (reached c level w int S)
-    branching-flows level (Some how) (Tests holds fails) otherwise x y S h k g f =
+        → F c B S (branching test w otherwise x y) (reached c level w int S)
+    branching-flows level (Some (WithSigns how)) (Tests holds fails) otherwise x y S h k g f =
         ends c B (op.Branch how x y holds fails) S S S [] refl refl refl (two-in S x y h k)
         (ways c B holds fails S g.0 g.1) (λ v is. is)
-    branching-flows level (Some how) Dropped otherwise x y S h k g f = f
-    branching-flows level (Some how) Own otherwise x y S h k g f = f
-    branching-flows level (Some how) (ToLocal local) otherwise x y S h k g f = f
+    branching-flows level (Some (WithoutSigns how)) (Tests holds fails) otherwise x y S h k g f =
+        ends c B (op.Branchu how x y holds fails) S S S [] refl refl refl (two-in S x y h k)
+        (ways c B holds fails S g.0 g.1) (λ v is. is)
+    branching-flows level (Some test) Dropped otherwise x y S h k g f = f
+    branching-flows level (Some test) Own otherwise x y S h k g f = f
+    branching-flows level (Some test) (ToLocal local) otherwise x y S h k g f = f
     branching-flows level None w otherwise x y S h k g f = f
 
     -- a number takes no block
@@ -123,15 +169,15 @@ module _ (c : Context) where
     none-agrees block level (ToLocal local) t S = tt
     none-agrees block level (Tests holds fails) t S = tt
 
-    pub on-numbers : (block level : ℕ) (w : Wanted) (operator : BinaryOp) (x y : ℕ) (S : List ℕ) → IsIn x S → IsIn y S
-        → AllFree level S → LowTarget c w int → Goes c B w S
-        → F c B S (on_numbers c block level w operator x y) (reached c level w int S)
-    on-numbers block level w operator x y S h k free low g =
-        let ops : Spot → List Line = λ to. computing c level operator to.number x y in
-        branching-flows level (comparison_of operator) w (made c block level w int ops) x y S h k g
+    pub on-numbers : (block level : ℕ) (w : Wanted) (within : IntegerType) (operator : BinaryOp) (x y : ℕ) (S : List ℕ)
+        → IsIn x S → IsIn y S → AllFree level S → LowTarget c w int → Goes c B w S
+        → F c B S (on_numbers c block level w within operator x y) (reached c level w int S)
+    on-numbers block level w within operator x y S h k free low g =
+        let ops : Spot → List Line = λ to. computing c level within operator to.number x y in
+        branching-flows level (test_of within operator) w (made c block level w int ops) x y S h k g
         (made-flows c B block level w int ops S
         (none-agrees block level w Int (words_of int (own c level) ++ S)) g
-        (computing-flows level operator (target c level w).number x y S h k free (target-free level w low)))
+        (computing-flows level within operator (target c level w).number x y S h k free (target-free level w low)))
 
   -- ---- pointers
 
@@ -258,16 +304,16 @@ module _ (c : Context) where
 
   both : (block level : ℕ) (w : Wanted) (operator : BinaryOp) (x y : Spot) (S : List ℕ)
       → Within (x.array ∷ x.number ∷ []) S → Within (y.array ∷ y.number ∷ []) S → AllFree level S → LowTarget c w int
-      → Settled c block 0 w S (Emit (op.Same x.array y.array) ∷ on_numbers c block level w operator x.number y.number)
+      → Settled c block 0 w S (Emit (op.Same x.array y.array) ∷ on_numbers c block level w Int operator x.number y.number)
       (reached c level w int S)
   both block level w operator x y S h k free low = record {
     sets = [];
     size = refl;
     flows = λ B a g.
         keeps c B (op.Same x.array y.array) S (reached c level w int S)
-        (on_numbers c block level w operator x.number y.number) (refl, refl, refl)
+        (on_numbers c block level w Int operator x.number y.number) (refl, refl, refl)
         (two-in S x.array y.array (h x.array (inl refl)) (k y.array (inl refl)))
-        (on-numbers B block level w operator x.number y.number S (h x.number (inr (inl refl)))
+        (on-numbers B block level w Int operator x.number y.number S (h x.number (inr (inl refl)))
         (k y.number (inr (inl refl))) free low g);
   }
 
@@ -298,8 +344,21 @@ module _ (c : Context) where
 
   -- ---- by the types of the operands
 
+  number-same : (level : ℕ) (w : Wanted) (t : IntegerType) (S : List ℕ)
+      → reached c level w int S ≡ reached c level w (Integer t) S
+  number-same level Dropped t S = refl
+  number-same level Own t S = refl
+  number-same level (ToLocal local) t S = refl
+  number-same level (Tests holds fails) t S = refl
+
+  number-low : (w : Wanted) (t : IntegerType) → LowTarget c w (Integer t) → LowTarget c w int
+  number-low Dropped t low = tt
+  number-low Own t low = tt
+  number-low (ToLocal local) t low = low
+  number-low (Tests holds fails) t low = tt
+
   pub applied-settled : (block level : ℕ) (w : Wanted) (operator : BinaryOp) (s t of : ValueType) (x y : Spot)
-      (S : List ℕ) → BinaryGives operator s t of → Within (words_of s x) S → Within (words_of t y) S → AllFree level S
+      (S : List ℕ) → LinesGive operator s t of → Within (words_of s x) S → Within (words_of t y) S → AllFree level S
       → LowTarget c w of
       → Settled c block (applied_blocks w operator s t) w S (applied c block level w operator s t x y)
       (reached c level w of S)
@@ -307,13 +366,15 @@ module _ (c : Context) where
   applied-settled block level w operator (Integer s) Void of x y S g h k free low = absurd g
   applied-settled block level w operator (Pointer s) Void of x y S g h k free low = absurd g
   applied-settled block level w operator (Integer s) (Integer t) of x y S g h k free low =
-      subst (λ (u : ValueType). Settled c block 0 w S (on_numbers c block level w operator x.number y.number)
-      (reached c level w u S)) (sym g)
+      let (u, e) = integer-of of g in
+      let within = numbers_type operator s t in
+      subst (λ (T : List ℕ). Settled c block 0 w S (on_numbers c block level w within operator x.number y.number) T)
+      (number-same level w u S ∙ ap (λ (v : ValueType). reached c level w v S) (sym e))
       (record {
         sets = [];
         size = refl;
-        flows = λ B a go. on-numbers B block level w operator x.number y.number S (h x.number (inl refl))
-            (k y.number (inl refl)) free (subst (λ (u : ValueType). LowTarget c w u) g low) go;
+        flows = λ B a go. on-numbers B block level w within operator x.number y.number S (h x.number (inl refl))
+            (k y.number (inl refl)) free (number-low w u (subst (λ (v : ValueType). LowTarget c w v) e low)) go;
       })
   applied-settled block level w operator (Pointer s) (Integer t) of x y S g h k free low =
       on-pointer block level w operator s of x y.number S g h (k y.number (inl refl)) free low

@@ -9,7 +9,7 @@ use Rattle.pcc_base.specs.Outcome.{ArrayName, Null, InFrame, Array as ArrayValue
 use Rattle.pcc_base.specs.declared.run.Width.TheVariants.{Two}
 use Rattle.c_eval_laws.specs.Bounds.{state_of}
 use Rattle.c_tree.specs.declared.types.IntegerType.{IntegerType}
-use Rattle.c_tree.specs.declared.types.IntegerType.TheVariants.{Char, Short, Int}
+use Rattle.c_tree.specs.declared.types.IntegerType.TheVariants.{Char, Short, Int, UnsignedInt}
 use Rattle.c_tree.specs.declared.types.ValueType.{ValueType}
 use Rattle.c_tree.specs.declared.types.ValueType.TheVariants.{Void, Integer, Pointer}
 use Rattle.c_tree.specs.Evaluation.{AtIndex, evaluate, element_written, fill, store, type_of, zeroed}
@@ -248,6 +248,7 @@ module _ (S : Site) (site : IsSite S) (older : List Function) (k : ℕ) (a : Loc
           one-wide Char = omega arith
           one-wide Short = omega arith
           one-wide Int = omega arith
+          one-wide UnsignedInt = omega arith
 
   abbrev element_lines : ℕ → ℕ → List Line
   element_lines place from = Emit (op.Const y (pos place)) ∷ Emit (op.Store (bits_of a.element) p y from) ∷ []

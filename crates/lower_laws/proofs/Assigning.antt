@@ -7,7 +7,7 @@ use Rattle.std.specs.Prelude.{slice_get, slice_index_or, slice_set, IsSomeAnd}
 use Rattle.pcc_base.specs.Outcome.{Number}
 use Rattle.c_eval_laws.specs.Bounds.{state_of}
 use Rattle.c_tree.specs.declared.types.IntegerType.{IntegerType}
-use Rattle.c_tree.specs.declared.types.IntegerType.TheVariants.{Char, Short, Int}
+use Rattle.c_tree.specs.declared.types.IntegerType.TheVariants.{Char, Short, Int, UnsignedInt}
 use Rattle.c_tree.specs.declared.types.ValueType.{ValueType}
 use Rattle.c_tree.specs.declared.types.ValueType.TheVariants.{Integer}
 use Rattle.c_tree.specs.Evaluation.{evaluate, type_of}
@@ -86,16 +86,19 @@ pub local-lowers : (S : Site) → IsSite S → (k : ℕ) (l : Local) (w : Intege
 local-lowers S site k l Char e of = chars-lower S site k l e of
 local-lowers S site k l Short e of = locals-lower S site k l Short e of (λ same. cc)
 local-lowers S site k l Int e of = locals-lower S site k l Int e of (λ same. cc)
+local-lowers S site k l UnsignedInt e of = locals-lower S site k l UnsignedInt e of (λ same. cc)
 
 pub local-of : (S : Site) (k : ℕ) (w : IntegerType) → (local_part (context_of S) (Integer w) k).of ≡ Integer w
 local-of S k Char = refl
 local-of S k Short = refl
 local-of S k Int = refl
+local-of S k UnsignedInt = refl
 
 pub local-levels : (S : Site) (k : ℕ) (w : IntegerType) → (local_part (context_of S) (Integer w) k).levels ≡ 1
 local-levels S k Char = refl
 local-levels S k Short = refl
 local-levels S k Int = refl
+local-levels S k UnsignedInt = refl
 
 module _ (S : Site) (site : IsSite S) (older : List Function) (k : ℕ) (l : Local) (w : IntegerType)
     (e : slice_get S.function.locals k ≡ Some l) (of : l.of ≡ Integer w) (block level : ℕ) (before : List Line)
@@ -285,6 +288,10 @@ assigned-lowers S site k l Int e of a run u la of' one falls =
     compound-lowers S (assigned_local (context_of S) (Integer Int) k a) _ refl refl
     (λ older block level wanted before s g stands room may b.
     wide-fits S site older k l Int e of a run u la of' one falls block level wanted before s g tt stands room may b)
+assigned-lowers S site k l UnsignedInt e of a run u la of' one falls =
+    compound-lowers S (assigned_local (context_of S) (Integer UnsignedInt) k a) _ refl refl
+    (λ older block level wanted before s g stands room may b.
+    wide-fits S site older k l UnsignedInt e of a run u la of' one falls block level wanted before s g tt stands room may b)
 
 pub assigns-lower : AssignsLower
 assigns-lower S site k l w there of e u lowers of' =

@@ -7,7 +7,7 @@ use Rattle.std.proofs.Math.ListN.{length-replicate}
 use Rattle.std.proofs.lemmas.List.{length-map}
 use Rattle.pcc_base.specs.declared.run.Width.{Width}
 use Rattle.pcc_base.specs.Outcome.{Value, Number}
-use Rattle.c_tree.specs.declared.types.IntegerType.TheVariants.{Char, Short, Int}
+use Rattle.c_tree.specs.declared.types.IntegerType.TheVariants.{Char, Short, Int, UnsignedInt}
 use Rattle.c_tree.specs.declared.types.ValueType.{ValueType}
 use Rattle.c_tree.specs.declared.types.ValueType.TheVariants.{Void, Integer, Pointer}
 use Rattle.c_tree.specs.Program.{Function, Local, LocalArray, Program}
@@ -45,6 +45,7 @@ zero-held vs Void v all = tt
 zero-held vs (Integer Char) v all = all v (omega arith) (omega arith)
 zero-held vs (Integer Short) v all = all v (omega arith) (omega arith)
 zero-held vs (Integer Int) v all = all v (omega arith) (omega arith)
+zero-held vs (Integer UnsignedInt) v all = all v (omega arith) (omega arith)
 zero-held vs (Pointer t) v all = (all v (omega arith) (omega arith), all (suc v) (omega arith) (omega arith))
 
 -- all locals

@@ -3,7 +3,6 @@ use Rattle.std.proofs.Common.{◌≡◌, ℕ, suc, ◌+◌, ◌<◌, ◌≤◌, 
 use Rattle.std.proofs.Common.{Option, Some, None, refl, sym, ap, ◌∙◌, subst, arith, append_assoc, append-nil}
 use Rattle.std.proofs.Math.Nat.{le-max_right}
 use Rattle.std.specs.Prelude.{if◌then◌else◌}
-use Rattle.std.proofs.lemmas.Option.{same_Some}
 use Rattle.pcc_base.specs.Outcome.{End, Trapped}
 use Rattle.c_eval_laws.proofs.Agreeing.{trees_keep}
 use Rattle.c_tree.specs.declared.expression.BinaryOp.{BinaryOp}
@@ -16,14 +15,11 @@ use Rattle.c_tree.specs.declared.types.IntegerType.TheVariants.{Int}
 use Rattle.c_tree.specs.declared.types.ValueType.{ValueType}
 use Rattle.c_tree.specs.declared.types.ValueType.TheVariants.{Integer}
 use Rattle.c_tree.specs.Evaluation.{computed, evaluate}
-use Rattle.c_tree.specs.Operators.{Computed, Computes, Traps, binary_value, number, numbers_value}
-use Rattle.c_tree.specs.Program.{Expression, Function, int}
+use Rattle.c_tree.specs.Operators.{Computed, Computes, Traps, binary_value, is_signed, number, numbers_type}
+use Rattle.c_tree.specs.Operators.{numbers_value, working_type}
+use Rattle.c_tree.specs.Program.{Expression, Function, int, value_type}
 use Rattle.c_tree.specs.Store as source
 use Rattle.c_tree.specs.Store.{Evaluated, Gives, Ends, Held, HoldsNumber, HoldsPointer, and_then}
-use Rattle.flow_graph.specs.declared.op.Comparison.{Comparison}
-use Rattle.flow_graph.specs.declared.op.Comparison.TheVariants.{Eq, Ne, Lt, Le, Gt, Ge}
-use Rattle.flow_graph.specs.declared.op.Op.TheVariants as op
-use Rattle.flow_graph.specs.Meaning.{comparison, compared}
 use Rattle.flow_graph.specs.Running.{outcome_at}
 use Rattle.flow_graph.specs.States as graph
 use Rattle.flow_graph.specs.States.{number_at}
@@ -31,19 +27,20 @@ use Rattle.lower_lines.specs.Expressions.{binary_part, part_of}
 use Rattle.lower_lines.specs.Following.{Begins, Comes, EndsSo, Follows, GivesOf, IsSite, Lowers, MayWant, Site, Stand}
 use Rattle.lower_lines.specs.Following.{behind, context_of}
 use Rattle.lower_lines.specs.Lines.{Line, Emit}
-use Rattle.lower_lines.specs.Operators.{applied, branching, comparison_of, computing, on_numbers}
+use Rattle.lower_lines.specs.Operators.{NumberTest, applied, branching, computing, on_numbers, test_branch, test_of}
 use Rattle.lower_lines.specs.Parts.{Wanted, Dropped, Own, ToLocal, Tests, Part, made, operand, target, tested}
 use Rattle.lower_lines.specs.Relation.{Shows}
 use Rattle.lower_lines.specs.Variables.{Spot, levels_of, local_variables}
 use Rattle.lower_lines.proofs.Changes.{kept-none}
-use Rattle.lower_lines.proofs.Steps.{branch-step}
+use Rattle.lower_lines.proofs.Steps.{answer_at, test-step}
 use Rattle.lower_laws.proofs.Atoms.{with-older}
 use Rattle.lower_laws.proofs.Going.{stand-back, stand-front}
 use Rattle.lower_laws.proofs.Made.{number-made, start-stands}
 use Rattle.lower_laws.proofs.Pairs.{BothStand, Falls, IsPlaced, SecondStands, both-operands, first_lines}
 use Rattle.lower_laws.proofs.Pairs.{operand-placed, second_lines}
+use Rattle.lower_laws.proofs.Retyped.{retyped-lowers}
 use Rattle.lower_laws.proofs.Unary.{follows-behind}
-use Rattle.lower_laws.proofs.Working.{Works, comparison-is, computing-works}
+use Rattle.lower_laws.proofs.Working.{Works, answer, answer-is, answer-value, computing-works}
 use Rattle.lower_laws.specs.ExpressionsLaws.{BinariesLower}
 
 -- ---- what works follows
@@ -96,39 +93,14 @@ works-follow S site older level ops before t g (Traps trap) block wanted u room 
 
 -- ---- a comparison that is tested
 
-is-compared : (operator : BinaryOp) (how : Comparison) (m n : ℤ) → comparison_of operator ≡ Some how
-    → numbers_value operator m n ≡ number (if compared how m n then pos 1 else pos 0)
-is-compared Less how m n e = ap (λ (h : Comparison). number (if compared h m n then pos 1 else pos 0))
-    (same_Some Lt how e)
-is-compared Greater how m n e =
-    ap (λ (h : Comparison). number (if compared h m n then pos 1 else pos 0)) (same_Some Gt how e)
-is-compared LessOrEqual how m n e =
-    ap (λ (h : Comparison). number (if compared h m n then pos 1 else pos 0)) (same_Some Le how e)
-is-compared GreaterOrEqual how m n e =
-    ap (λ (h : Comparison). number (if compared h m n then pos 1 else pos 0)) (same_Some Ge how e)
-is-compared Equal how m n e =
-    ap (λ (h : Comparison). number (if compared h m n then pos 1 else pos 0)) (same_Some Eq how e)
-is-compared NotEqual how m n e =
-    ap (λ (h : Comparison). number (if compared h m n then pos 1 else pos 0)) (same_Some Ne how e)
-is-compared Multiply how m n e = absurd (cc)
-is-compared Divide how m n e = absurd (cc)
-is-compared Remainder how m n e = absurd (cc)
-is-compared Add how m n e = absurd (cc)
-is-compared Subtract how m n e = absurd (cc)
-is-compared ShiftLeft how m n e = absurd (cc)
-is-compared ShiftRight how m n e = absurd (cc)
-is-compared BitAnd how m n e = absurd (cc)
-is-compared BitXor how m n e = absurd (cc)
-is-compared BitOr how m n e = absurd (cc)
-
--- a branch goes where the truth value of its comparison would
-pub branch-follows : (S : Site) (site : IsSite S) (active : List Function) (level : ℕ) (before : List Line)
-    (t : source.State) (g : graph.State) (how : Comparison) (x y yes' no' : ℕ) (holds : Bool)
-    → Shows S.program active t g → g.current.function ≡ S.number → comparison how g x y ≡ Some holds
-    → Stand S before (Emit (op.Branch how x y yes' no') ∷ []) → MayWant S (Tests yes' no') int
-    → Follows S active before (Emit (op.Branch how x y yes' no') ∷ []) level (Tests yes' no') int t g
+-- a branch goes where the answer of its test does
+test-follows : (S : Site) (site : IsSite S) (active : List Function) (level : ℕ) (before : List Line)
+    (t : source.State) (g : graph.State) (test : NumberTest) (x y yes' no' : ℕ) (holds : Bool)
+    → Shows S.program active t g → g.current.function ≡ S.number → answer_at test g x y ≡ Some holds
+    → Stand S before (Emit (test_branch test x y yes' no') ∷ []) → MayWant S (Tests yes' no') int
+    → Follows S active before (Emit (test_branch test x y yes' no') ∷ []) level (Tests yes' no') int t g
     (Gives (HoldsNumber (if holds then pos 1 else pos 0)) t)
-branch-follows S site active level before t g how x y yes' no' true shows fits compares stands may =
+test-follows S site active level before t g test x y yes' no' true shows fits answers stands may =
     let (other, starts) = start-stands S yes' may.1 in (
       g,
       [],
@@ -136,9 +108,9 @@ branch-follows S site active level before t g how x y yes' no' true shows fits c
       kept-none (local_variables S.function) level g,
       tt,
       sym (append-nil t.visits),
-      λ o r. branch-step S site before g fits how x y yes' no' true t.turns o other stands compares starts r,
+      λ o r. test-step S site before g fits test x y yes' no' true t.turns o other stands answers starts r,
     )
-branch-follows S site active level before t g how x y yes' no' false shows fits compares stands may =
+test-follows S site active level before t g test x y yes' no' false shows fits answers stands may =
     let (other, starts) = start-stands S no' may.2 in (
       g,
       [],
@@ -146,78 +118,88 @@ branch-follows S site active level before t g how x y yes' no' false shows fits 
       kept-none (local_variables S.function) level g,
       tt,
       sym (append-nil t.visits),
-      λ o r. branch-step S site before g fits how x y yes' no' false t.turns o other stands compares starts r,
+      λ o r. test-step S site before g fits test x y yes' no' false t.turns o other stands answers starts r,
     )
 
 module _ (S : Site) (site : IsSite S) (older : List Function) (level x y : ℕ) (m n : ℤ) (before : List Line)
     (t : source.State) (g : graph.State) (fits : g.current.function ≡ S.number)
     (shows : Shows S.program (S.function ∷ older) t g) (room : level < levels_of S.function)
     (at_x : number_at g x ≡ Some m) (at_y : number_at g y ≡ Some n) (px : IsPlaced S level x)
-    (py : IsPlaced S (suc level) y) (operator : BinaryOp) where
+    (py : IsPlaced S (suc level) y) (within : IntegerType) (operator : BinaryOp) where
   otherwise-follows : (block : ℕ) (wanted : Wanted)
       → Stand S before (made (context_of S) block level wanted int
-      (λ to. computing (context_of S) level operator to.number x y)) → MayWant S wanted int
+      (λ to. computing (context_of S) level within operator to.number x y)) → MayWant S wanted int
       → Follows S (S.function ∷ older) before (made (context_of S) block level wanted int
-      (λ to. computing (context_of S) level operator to.number x y)) level wanted int t g
-      (computed (numbers_value operator m n) t)
+      (λ to. computing (context_of S) level within operator to.number x y)) level wanted int t g
+      (computed (numbers_value within operator m n) t)
   otherwise-follows block wanted stands may =
-      works-follow S site older level (λ to. computing (context_of S) level operator to x y) before t g
-      (numbers_value operator m n) block wanted Int room shows fits
-      (computing-works S site older level x y m n before t g fits shows room at_x at_y px py operator) stands may
+      works-follow S site older level (λ to. computing (context_of S) level within operator to x y) before t g
+      (numbers_value within operator m n) block wanted Int room shows fits
+      (computing-works S site older level x y m n before t g fits shows room at_x at_y px py within operator)
+      stands may
 
-  by-comparison : (how : Option Comparison) → comparison_of operator ≡ how → (block : ℕ) (wanted : Wanted)
-      → Stand S before (branching how wanted (made (context_of S) block level wanted int
-      (λ to. computing (context_of S) level operator to.number x y)) x y) → MayWant S wanted int
-      → Follows S (S.function ∷ older) before (branching how wanted (made (context_of S) block level wanted int
-      (λ to. computing (context_of S) level operator to.number x y)) x y) level wanted int t g
-      (computed (numbers_value operator m n) t)
-  by-comparison None e block wanted stands may = otherwise-follows block wanted stands may
-  by-comparison (Some how) e block Dropped stands may = otherwise-follows block Dropped stands may
-  by-comparison (Some how) e block Own stands may = otherwise-follows block Own stands may
-  by-comparison (Some how) e block (ToLocal k) stands may = otherwise-follows block (ToLocal k) stands may
-  by-comparison (Some how) e block (Tests yes' no') stands may =
-      subst (λ (c : Computed). Follows S (S.function ∷ older) before (Emit (op.Branch how x y yes' no') ∷ []) level
-      (Tests yes' no') int t g (computed c t)) (sym (is-compared operator how m n e))
-      (branch-follows S site (S.function ∷ older) level before t g how x y yes' no' (compared how m n) shows fits
-      (comparison-is how g x y m n at_x at_y) stands may)
+  by-test : (test : Option NumberTest) → test_of within operator ≡ test → (block : ℕ) (wanted : Wanted)
+      → Stand S before (branching test wanted (made (context_of S) block level wanted int
+      (λ to. computing (context_of S) level within operator to.number x y)) x y) → MayWant S wanted int
+      → Follows S (S.function ∷ older) before (branching test wanted (made (context_of S) block level wanted int
+      (λ to. computing (context_of S) level within operator to.number x y)) x y) level wanted int t g
+      (computed (numbers_value within operator m n) t)
+  by-test None e block wanted stands may = otherwise-follows block wanted stands may
+  by-test (Some test) e block Dropped stands may = otherwise-follows block Dropped stands may
+  by-test (Some test) e block Own stands may = otherwise-follows block Own stands may
+  by-test (Some test) e block (ToLocal k) stands may = otherwise-follows block (ToLocal k) stands may
+  by-test (Some test) e block (Tests yes' no') stands may =
+      subst (λ (c : Computed). Follows S (S.function ∷ older) before (Emit (test_branch test x y yes' no') ∷ []) level
+      (Tests yes' no') int t g (computed c t)) (answer-value within operator test m n e)
+      (test-follows S site (S.function ∷ older) level before t g test x y yes' no' (answer test m n) shows fits
+      (answer-is test g x y m n at_x at_y) stands may)
 
   pub numbers-follow : (block : ℕ) (wanted : Wanted)
-      → Stand S before (on_numbers (context_of S) block level wanted operator x y) → MayWant S wanted int
-      → Follows S (S.function ∷ older) before (on_numbers (context_of S) block level wanted operator x y) level wanted
-      int t g (computed (numbers_value operator m n) t)
-  numbers-follow block wanted stands may = by-comparison (comparison_of operator) refl block wanted stands may
+      → Stand S before (on_numbers (context_of S) block level wanted within operator x y) → MayWant S wanted int
+      → Follows S (S.function ∷ older) before (on_numbers (context_of S) block level wanted within operator x y) level
+      wanted int t g (computed (numbers_value within operator m n) t)
+  numbers-follow block wanted stands may = by-test (test_of within operator) refl block wanted stands may
 
 -- ---- behind two operands
 
-number-typed : (S : Site) (active : List Function) (operator : BinaryOp) (m n : ℤ) (t : source.State) (c : Computed)
-    → numbers_value operator m n ≡ c → GivesOf S.program active int (computed c t)
-number-typed S active operator m n t (Computes (HoldsNumber r)) e = tt
-number-typed S active operator m n t (Traps trap) e = tt
-number-typed S active operator m n t (Computes (HoldsPointer array index)) e = absurd (never operator m n array index e)
+number-typed : (S : Site) (active : List Function) (within : IntegerType) (operator : BinaryOp) (m n : ℤ)
+    (t : source.State) (c : Computed) → numbers_value within operator m n ≡ c
+    → GivesOf S.program active int (computed c t)
+number-typed S active within operator m n t (Computes (HoldsNumber r)) e = tt
+number-typed S active within operator m n t (Traps trap) e = tt
+number-typed S active within operator m n t (Computes (HoldsPointer array index)) e =
+    absurd (never operator array index e)
   where
     either : (b : Bool) (trap : _) (r : ℤ) (array : _) (index : ℤ)
         → (if b then Traps trap else number r) ≡ Computes (HoldsPointer array index) → ⊥
     either true trap r array index e = cc
     either false trap r array index e = cc
 
-    never : (operator : BinaryOp) (m n : ℤ) (array : _) (index : ℤ)
-        → numbers_value operator m n ≡ Computes (HoldsPointer array index) → ⊥
-    never Multiply m n array index e = cc
-    never Divide m n array index e = either _ _ _ array index e
-    never Remainder m n array index e = either _ _ _ array index e
-    never Add m n array index e = cc
-    never Subtract m n array index e = cc
-    never ShiftLeft m n array index e = cc
-    never ShiftRight m n array index e = cc
-    never Less m n array index e = cc
-    never Greater m n array index e = cc
-    never LessOrEqual m n array index e = cc
-    never GreaterOrEqual m n array index e = cc
-    never Equal m n array index e = cc
-    never NotEqual m n array index e = cc
-    never BitAnd m n array index e = cc
-    never BitXor m n array index e = cc
-    never BitOr m n array index e = cc
+    -- with signs or without
+    in_both : (signed b b' : Bool) (trap : _) (r r' : ℤ) (array : _) (index : ℤ)
+        → (if signed then (if b then Traps trap else number r) else (if b' then Traps trap else number r'))
+        ≡ Computes (HoldsPointer array index) → ⊥
+    in_both true b b' trap r r' array index e = either b trap r array index e
+    in_both false b b' trap r r' array index e = either b' trap r' array index e
+
+    never : (operator : BinaryOp) (array : _) (index : ℤ)
+        → numbers_value within operator m n ≡ Computes (HoldsPointer array index) → ⊥
+    never Multiply array index e = cc
+    never Divide array index e = in_both (is_signed within) _ _ _ _ _ array index e
+    never Remainder array index e = in_both (is_signed within) _ _ _ _ _ array index e
+    never Add array index e = cc
+    never Subtract array index e = cc
+    never ShiftLeft array index e = cc
+    never ShiftRight array index e = cc
+    never Less array index e = cc
+    never Greater array index e = cc
+    never LessOrEqual array index e = cc
+    never GreaterOrEqual array index e = cc
+    never Equal array index e = cc
+    never NotEqual array index e = cc
+    never BitAnd array index e = cc
+    never BitXor array index e = cc
+    never BitOr array index e = cc
 
 -- lines that follow, and give what is of their type
 abbrev pub Fits : Site → List Function → List Line → List Line → ℕ → Wanted → ValueType → source.State → graph.State
@@ -226,36 +208,36 @@ Fits S active before lines level wanted of s g r =
     Follows S active before lines level wanted of s g r × GivesOf S.program active of r
 
 module _ (S : Site) (site : IsSite S) (older : List Function) (level x y : ℕ) (before xs : List Line)
-    (block : ℕ) (wanted : Wanted) (operator : BinaryOp) (s : source.State) (g : graph.State)
+    (block : ℕ) (wanted : Wanted) (within : IntegerType) (operator : BinaryOp) (s : source.State) (g : graph.State)
     (room : level < levels_of S.function) (px : IsPlaced S level x) (py : IsPlaced S (suc level) y)
-    (stands : Stand S before (xs ++ on_numbers (context_of S) block level wanted operator x y))
+    (stands : Stand S before (xs ++ on_numbers (context_of S) block level wanted within operator x y))
     (may : MayWant S wanted int) (own : g.current.function ≡ S.number) where
   second-fits : (first : Held) (r : Evaluated Held)
       → SecondStands S (S.function ∷ older) before xs level x y first s g r
-      → Fits S (S.function ∷ older) before (xs ++ on_numbers (context_of S) block level wanted operator x y) level
-      wanted int s g (and_then r (λ second u. computed (binary_value operator first second) u))
+      → Fits S (S.function ∷ older) before (xs ++ on_numbers (context_of S) block level wanted within operator x y) level
+      wanted int s g (and_then r (λ second u. computed (binary_value within operator first second) u))
   second-fits first (Ends end u) ends = (ends, tt)
   second-fits first (Gives second u) (h, us, m, n, is, is', shows, keeps, seen, at_x, at_y, goes) =
       subst (λ (v : Held). Fits S (S.function ∷ older) before
-      (xs ++ on_numbers (context_of S) block level wanted operator x y) level wanted int s g
-      (computed (binary_value operator v second) u)) (sym is)
+      (xs ++ on_numbers (context_of S) block level wanted within operator x y) level wanted int s g
+      (computed (binary_value within operator v second) u)) (sym is)
       (subst (λ (v : Held). Fits S (S.function ∷ older) before
-      (xs ++ on_numbers (context_of S) block level wanted operator x y) level wanted int s g
-      (computed (binary_value operator (HoldsNumber m) v) u)) (sym is') (
+      (xs ++ on_numbers (context_of S) block level wanted within operator x y) level wanted int s g
+      (computed (binary_value within operator (HoldsNumber m) v) u)) (sym is') (
         follows-behind S (S.function ∷ older) before xs
-            (on_numbers (context_of S) block level wanted operator x y) level wanted int s u g h us
-            (computed (numbers_value operator m n) u) keeps seen goes
+            (on_numbers (context_of S) block level wanted within operator x y) level wanted int s u g h us
+            (computed (numbers_value within operator m n) u) keeps seen goes
             (numbers-follow S site older level x y m n (before ++ xs) u h (keeps.function ∙ own) shows room at_x at_y px
-            py operator block wanted
-            (stand-back S before xs (on_numbers (context_of S) block level wanted operator x y) stands) may),
-        number-typed S (S.function ∷ older) operator m n u (numbers_value operator m n) refl,
+            py within operator block wanted
+            (stand-back S before xs (on_numbers (context_of S) block level wanted within operator x y) stands) may),
+        number-typed S (S.function ∷ older) within operator m n u (numbers_value within operator m n) refl,
       ))
 
   both-fit : (run : source.State → Evaluated Held) (r : Evaluated Held)
       → BothStand S (S.function ∷ older) before xs level x y s g r run
-      → Fits S (S.function ∷ older) before (xs ++ on_numbers (context_of S) block level wanted operator x y) level
+      → Fits S (S.function ∷ older) before (xs ++ on_numbers (context_of S) block level wanted within operator x y) level
       wanted int s g
-      (and_then r (λ first t. and_then (run t) (λ second u. computed (binary_value operator first second) u)))
+      (and_then r (λ first t. and_then (run t) (λ second u. computed (binary_value within operator first second) u)))
   both-fit run (Ends end t) ends = (ends, tt)
   both-fit run (Gives first t) both = second-fits first (run t) both
 
@@ -287,11 +269,11 @@ compound-lowers S part run no_name nowhere fits = record {
     both-spots : (o : Option Spot) (spot : Spot) → o ≡ None → o ≡ Some spot → ⊥
     both-spots o spot e f = cc
 
--- both of two operands, by operator
-abbrev pub after_both : BinaryOp → (source.State → Evaluated Held) → (source.State → Evaluated Held) → source.State
-    → Evaluated Held
-after_both operator run run' s =
-    and_then (run s) (λ first t. and_then (run' t) (λ second u. computed (binary_value operator first second) u))
+-- both of two operands, by operator and the type that it works in
+abbrev pub after_both : IntegerType → BinaryOp → (source.State → Evaluated Held) → (source.State → Evaluated Held)
+    → source.State → Evaluated Held
+after_both within operator run run' s =
+    and_then (run s) (λ first t. and_then (run' t) (λ second u. computed (binary_value within operator first second) u))
 
 -- the lines of an operator whose operands are of these types
 abbrev binary_lines : Site → BinaryOp → Part → Part → ValueType → ValueType → ℕ → ℕ → Wanted → List Line
@@ -309,20 +291,21 @@ pub binary-fits : (S : Site) (site : IsSite S) (older : List Function) (operator
     → level + max a.levels (suc b.levels) ≤ levels_of S.function → MayWant S wanted int
     → Begins S (S.function ∷ older) s g
     → Fits S (S.function ∷ older) before (binary_lines S operator a b a.of b.of block level wanted) level wanted int s g
-    (after_both operator run run' s)
+    (after_both (numbers_type operator t u) operator run run' s)
 binary-fits S site older operator a b run run' t u la of lb of' falls block level wanted before s g stands room
     may begins =
     subst (λ (p : ValueType). Fits S (S.function ∷ older) before (binary_lines S operator a b p b.of block level wanted)
-    level wanted int s g (after_both operator run run' s)) (sym of)
+    level wanted int s g (after_both (numbers_type operator t u) operator run run' s)) (sym of)
     (subst (λ (q : ValueType). Fits S (S.function ∷ older) before
     (binary_lines S operator a b (Integer t) q block level wanted) level wanted int s g
-    (after_both operator run run' s)) (sym of')
+    (after_both (numbers_type operator t u) operator run run' s)) (sym of')
     (subst (λ (ls : List Line). Fits S (S.function ∷ older) before ls level wanted int s g
-    (after_both operator run run' s))
+    (after_both (numbers_type operator t u) operator run run' s))
     (append_assoc (first_lines S a b block level) (second_lines S a b block level) last)
     (both-fit S site older level ((operand (context_of S) b.simple a).spot level).number
     ((operand (context_of S) true b).spot (suc level)).number before
-    (first_lines S a b block level ++ second_lines S a b block level) behind_both wanted operator s g deeper
+    (first_lines S a b block level ++ second_lines S a b block level) behind_both wanted
+    (numbers_type operator t u) operator s g deeper
     (operand-placed S a run t b.simple la of level) (operand-placed S b run' u true lb of' (suc level)) both may
     begins.function run' (run s)
     (both-operands S older a b run run' t u la of lb of' falls block level before s g
@@ -332,7 +315,7 @@ binary-fits S site older operator a b run run' t u la of lb of' falls block leve
     behind_both = block + (operand (context_of S) b.simple a).blocks + (operand (context_of S) true b).blocks
 
     last : List Line
-    last = on_numbers (context_of S) behind_both level wanted operator
+    last = on_numbers (context_of S) behind_both level wanted (numbers_type operator t u) operator
         ((operand (context_of S) b.simple a).spot level).number ((operand (context_of S) true b).spot
         (suc level)).number
 
@@ -353,14 +336,27 @@ turns-fall S site e s = ((trees_keep S.bound S.calls site.keeps).expressions e s
 pub binary-lowers : (S : Site) (site : IsSite S) (operator : BinaryOp) (a b : Part)
     (run run' : source.State → Evaluated Held) (t u : IntegerType) → Lowers S a run → a.of ≡ Integer t
     → Lowers S b run' → b.of ≡ Integer u → Falls run
-    → Lowers S (binary_part (context_of S) int operator a b) (after_both operator run run')
+    → Lowers S (binary_part (context_of S) int operator a b) (after_both (numbers_type operator t u) operator run run')
 binary-lowers S site operator a b run run' t u la of lb of' falls =
-    compound-lowers S (binary_part (context_of S) int operator a b) (after_both operator run run') refl refl
+    compound-lowers S (binary_part (context_of S) int operator a b) _ refl refl
     (λ older block level wanted before s g stands room may begins.
     binary-fits S site older operator a b run run' t u la of lb of' falls block level wanted before s g stands
     room may begins)
 
+-- the type that an operator works in whose operands are of these integer types
+pub works-in : (operator : BinaryOp) (p q : ValueType) (t u : IntegerType) → p ≡ Integer t → q ≡ Integer u
+    → numbers_type operator t u ≡ working_type operator p q
+works-in operator p q t u is is' =
+    sym (ap (λ (o : ValueType). working_type operator o q) is
+    ∙ ap (λ (o : ValueType). working_type operator (Integer t) o) is')
+
 pub binaries-lower : BinariesLower
-binaries-lower S site operator a b t u la of lb of' =
-    binary-lowers S site operator (part_of (context_of S) a) (part_of (context_of S) b) (evaluate S.calls a)
-    (evaluate S.calls b) t u la of lb of' (turns-fall S site a)
+binaries-lower S site of operator a b t u ta tb la at lb bt =
+    retyped-lowers S (binary_part (context_of S) int operator (part_of (context_of S) a) (part_of (context_of S) b)) _ Int
+    of refl refl
+    (subst (λ (w : IntegerType). Lowers S
+    (binary_part (context_of S) int operator (part_of (context_of S) a) (part_of (context_of S) b))
+    (after_both w operator (evaluate S.calls a) (evaluate S.calls b)))
+    (works-in operator (value_type a) (value_type b) t u ta tb)
+    (binary-lowers S site operator (part_of (context_of S) a) (part_of (context_of S) b) (evaluate S.calls a)
+    (evaluate S.calls b) t u la at lb bt (turns-fall S site a)))

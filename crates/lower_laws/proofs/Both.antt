@@ -6,6 +6,7 @@ use Rattle.std.specs.Prelude.{slice_get}
 use Rattle.pcc_base.specs.Outcome.{Value, Visit}
 use Rattle.c_eval_laws.specs.Bounds.{state_of}
 use Rattle.c_tree.specs.declared.expression.BinaryOp.{BinaryOp}
+use Rattle.c_tree.specs.declared.types.IntegerType.{IntegerType}
 use Rattle.c_tree.specs.declared.types.ValueType.{ValueType}
 use Rattle.c_tree.specs.declared.types.ValueType.TheVariants.{Void, Integer, Pointer}
 use Rattle.c_tree.specs.Evaluation.{computed, type_of}
@@ -271,27 +272,28 @@ module _ (S : Site) (a b : Part) (run run' : source.State → Evaluated Held) (l
 
 -- ---- an operator on both
 
--- the lines of an operator on values of two types, wherever they stand
+-- The lines of an operator on values of two types, wherever they stand. A pointer is among them, so that it is the same
+-- whatever type the operator works in.
 abbrev pub Applies : Site → ValueType → BinaryOp → ValueType → ValueType → Type 0
 Applies S of operator p q =
-    (older : List Function) (block level : ℕ) (wanted : Wanted) (before : List Line) (x y : Spot) (v v' : Held)
+    (within : IntegerType) (older : List Function) (block level : ℕ) (wanted : Wanted) (before : List Line) (x y : Spot) (v v' : Held)
     (z : source.State) (i : graph.State)
     → Stand S before (applied (context_of S) block level wanted operator p q x y) → level < levels_of S.function
     → MayWant S wanted of → Begins S (S.function ∷ older) z i → Placed S level p x → Placed S (suc level) q y
     → HoldsAt i.current.variables p x v → HoldsAt i.current.variables q y v'
     → IsOf S.program (S.function ∷ older) p v → IsOf S.program (S.function ∷ older) q v'
     → Fits S (S.function ∷ older) before (applied (context_of S) block level wanted operator p q x y) level wanted of z
-    i (computed (binary_value operator v v') z)
+    i (computed (binary_value within operator v v') z)
 
 pub below : (level i j top : ℕ) → level + max i (suc j) ≤ top → level < top
 below level i j top room = let m = le-max_right i (suc j) in omega (arith, room, m)
 
-applies-lower : (S : Site) (of : ValueType) (operator : BinaryOp) (a b : Part)
+applies-lower : (S : Site) (of : ValueType) (within : IntegerType) (operator : BinaryOp) (a b : Part)
     (run run' : source.State → Evaluated Held) → Lowers S a run → a.of ≢ Void → Lowers S b run' → b.of ≢ Void
     → Falls run → Falls run' → Applies S of operator a.of b.of
-    → Lowers S (binary_part (context_of S) of operator a b) (after_both operator run run')
-applies-lower S of operator a b run run' la scalar lb scalar' falls falls' applies =
-    compound-lowers S (binary_part (context_of S) of operator a b) (after_both operator run run') refl refl
+    → Lowers S (binary_part (context_of S) of operator a b) (after_both within operator run run')
+applies-lower S of within operator a b run run' la scalar lb scalar' falls falls' applies =
+    compound-lowers S (binary_part (context_of S) of operator a b) (after_both within operator run run') refl refl
     (λ older block level wanted before s g stands room may begins.
     let x = operand (context_of S) b.simple a in
     let y = operand (context_of S) true b in
@@ -300,8 +302,8 @@ applies-lower S of operator a b run run' la scalar lb scalar' falls falls' appli
     let third = block + x.blocks + y.blocks in
     let last = applied (context_of S) third level wanted operator a.of b.of (x.spot level) (y.spot (suc level)) in
     both-fit S a b run run' la scalar lb scalar' falls falls' older block level wanted before last of
-    (λ v v' z. computed (binary_value operator v v') z) s g room begins stands
-    (λ v v' z i there holds holds' typed typed'. applies older third level wanted ((before ++ first) ++ second)
+    (λ v v' z. computed (binary_value within operator v v') z) s g room begins stands
+    (λ v v' z i there holds holds' typed typed'. applies within older third level wanted ((before ++ first) ++ second)
     (x.spot level) (y.spot (suc level)) v v' z i
     (stand-back S (before ++ first) second last (stand-back S before first (second ++ last) stands))
     (below level a.levels b.levels (levels_of S.function) room) may there
@@ -309,12 +311,12 @@ applies-lower S of operator a b run run' la scalar lb scalar' falls falls' appli
     (operand-placed S older b run' lb scalar' true (suc level)) holds holds' typed typed'))
 
 -- an operator on operands of these types
-pub operator-lowers : (S : Site) (of : ValueType) (operator : BinaryOp) (a b : Part)
+pub operator-lowers : (S : Site) (of : ValueType) (within : IntegerType) (operator : BinaryOp) (a b : Part)
     (run run' : source.State → Evaluated Held) (p q : ValueType) → Lowers S a run → a.of ≡ p → Lowers S b run'
     → b.of ≡ q → p ≢ Void → q ≢ Void → Falls run → Falls run' → Applies S of operator p q
-    → Lowers S (binary_part (context_of S) of operator a b) (after_both operator run run')
-operator-lowers S of operator a b run run' p q la is lb is' scalar scalar' falls falls' applies =
-    applies-lower S of operator a b run run' la (λ e. scalar (sym is ∙ e)) lb (λ e. scalar' (sym is' ∙ e)) falls falls'
+    → Lowers S (binary_part (context_of S) of operator a b) (after_both within operator run run')
+operator-lowers S of within operator a b run run' p q la is lb is' scalar scalar' falls falls' applies =
+    applies-lower S of within operator a b run run' la (λ e. scalar (sym is ∙ e)) lb (λ e. scalar' (sym is' ∙ e)) falls falls'
     (subst (λ (m : ValueType). Applies S of operator m b.of) (sym is)
     (subst (λ (n : ValueType). Applies S of operator p n) (sym is') applies))
 

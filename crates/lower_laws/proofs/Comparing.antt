@@ -8,7 +8,7 @@ use Rattle.pcc_base.specs.Outcome.{Number, Outcome}
 use Rattle.pcc_base.specs.declared.run.Width.TheVariants.{Two}
 use Rattle.c_tree.specs.declared.statement.Label.{Label}
 use Rattle.c_tree.specs.declared.types.IntegerType.{IntegerType}
-use Rattle.c_tree.specs.declared.types.IntegerType.TheVariants.{Char, Short, Int}
+use Rattle.c_tree.specs.declared.types.IntegerType.TheVariants.{Char, Short, Int, UnsignedInt}
 use Rattle.c_tree.specs.declared.types.ValueType.{ValueType}
 use Rattle.c_tree.specs.declared.types.ValueType.TheVariants.{Integer}
 use Rattle.c_tree.specs.Evaluation.{first_label, is_case, is_default, or_else, switched, type_of}
@@ -235,3 +235,4 @@ operand-apart S a run u lowers of = by a.stands (λ p e. e)
         one-wide Char = omega arith
         one-wide Short = omega arith
         one-wide Int = omega arith
+        one-wide UnsignedInt = omega arith

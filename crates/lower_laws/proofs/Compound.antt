@@ -5,14 +5,14 @@ use Rattle.std.proofs.Common.{length-append}
 use Rattle.c_tree.specs.declared.expression.UnaryOp.{UnaryOp}
 use Rattle.c_tree.specs.declared.expression.UnaryOp.TheVariants.{Plus, Minus, Complement, Not}
 use Rattle.c_tree.specs.declared.types.IntegerType.{IntegerType}
-use Rattle.c_tree.specs.declared.types.IntegerType.TheVariants.{Char, Short, Int}
+use Rattle.c_tree.specs.declared.types.IntegerType.TheVariants.{Char, Short, Int, UnsignedInt}
 use Rattle.c_tree.specs.declared.types.ValueType.{ValueType}
 use Rattle.c_tree.specs.declared.types.ValueType.TheVariants.{Void, Integer, Pointer}
 use Rattle.c_tree.specs.Program.{int}
 use Rattle.flow_graph.specs.declared.op.Op.TheVariants as op
 use Rattle.flow_graph.specs.Graphs.{IsIn}
 use Rattle.lower_lines.specs.Expressions.{and_part, and_test, cast_part, comma_part, negated, or_part}
-use Rattle.lower_lines.specs.Expressions.{or_test, test_blocks_of, unary_part, words_of}
+use Rattle.lower_lines.specs.Expressions.{number_part, or_test, test_blocks_of, unary_part, words_of}
 use Rattle.lower_lines.specs.Lines.{Line, Start, Emit}
 use Rattle.lower_lines.specs.Parts.{Wanted, Dropped, Own, ToLocal, Tests, Part, as_pointer, compound, converting}
 use Rattle.lower_lines.specs.Parts.{in_type, made, narrowed, null_lines, operand, target, truth}
@@ -197,13 +197,14 @@ module _ (c : Context) (D : List ℕ) (low-known : (v : ℕ) → IsIn v D → v 
   UnaryFits Not of = Unit {0}
   UnaryFits _ of = (u : IntegerType) × (of ≡ Integer u)
 
-  pub unary-part : (operator : UnaryOp) (a : Part) → UnaryFits operator a.of → Live a → Live (unary_part c operator a)
-  unary-part Plus a (u, e) h = retyped a int (subst (λ (t : ValueType). Alike t int) (sym e) tt) h
-  unary-part Minus a (u, e) h =
-      number-part c D low-known op.Neg a u e (λ d s. ((refl, refl, refl), refl, refl)) h
-  unary-part Complement a (u, e) h =
-      number-part c D low-known op.Not a u e (λ d s. ((refl, refl, refl), refl, refl)) h
-  unary-part Not a e h = negated-part a h
+  pub unary-part : (of : IntegerType) (operator : UnaryOp) (a : Part) → UnaryFits operator a.of → Live a
+      → Live (unary_part c of operator a)
+  unary-part of Plus a (u, e) h = retyped a (Integer of) (subst (λ (t : ValueType). Alike t (Integer of)) (sym e) tt) h
+  unary-part of Minus a (u, e) h = retyped (number_part c op.Neg a) (Integer of) tt
+      (number-part c D low-known op.Neg a u e (λ d s. ((refl, refl, refl), refl, refl)) h)
+  unary-part of Complement a (u, e) h = retyped (number_part c op.Not a) (Integer of) tt
+      (number-part c D low-known op.Not a u e (λ d s. ((refl, refl, refl), refl, refl)) h)
+  unary-part of Not a e h = retyped (negated c a) (Integer of) tt (negated-part a h)
 
   pub and-part : (a b : Part) → Live a → Live b → Live (and_part c a b)
   and-part a b ha hb = record {
@@ -369,6 +370,7 @@ module _ (c : Context) (D : List ℕ) (low-known : (v : ℕ) → IsIn v D → v 
   turned-part (Integer Short) a turns h =
       let (u, e) = integer-turned Short a.of turns in narrowed-part Short u a e h
   turned-part (Integer Int) a turns h = h
+  turned-part (Integer UnsignedInt) a turns h = h
   turned-part (Pointer t) a turns h = pointer-part t a.of a h
 
   pub turned-alike : (of : ValueType) (a : Part) → Becomes of a.of → Alike (in_type c of a).of of
@@ -377,6 +379,9 @@ module _ (c : Context) (D : List ℕ) (low-known : (v : ℕ) → IsIn v D → v 
   turned-alike (Integer Short) a turns = tt
   turned-alike (Integer Int) a turns =
       let (u, e) = integer-turned Int a.of turns in subst (λ (t : ValueType). Alike t int) (sym e) tt
+  turned-alike (Integer UnsignedInt) a turns =
+      let (u, e) = integer-turned UnsignedInt a.of turns in
+      subst (λ (t : ValueType). Alike t (Integer UnsignedInt)) (sym e) tt
   turned-alike (Pointer t) a turns = by a.of refl
     where
       by : (of : ValueType) → a.of ≡ of → Alike (as_pointer c t of a).of (Pointer t)

@@ -12,25 +12,28 @@ use Rattle.c_tree.specs.declared.expression.BinaryOp.TheVariants.{Multiply, Divi
 use Rattle.c_tree.specs.declared.expression.BinaryOp.TheVariants.{ShiftRight, Less, Greater, LessOrEqual}
 use Rattle.c_tree.specs.declared.expression.BinaryOp.TheVariants.{GreaterOrEqual, Equal, NotEqual, BitAnd, BitXor}
 use Rattle.c_tree.specs.declared.expression.BinaryOp.TheVariants.{BitOr}
-use Rattle.c_tree.specs.Operators.{Computed, Computes, Traps, no_quotient, number, numbers_value, shift_count}
-use Rattle.c_tree.specs.Operators.{shifted_right}
+use Rattle.c_tree.specs.declared.types.IntegerType.{IntegerType}
+use Rattle.c_tree.specs.Operators.{Computed, Computes, Traps, is_signed, no_quotient, no_unsigned_quotient, number}
+use Rattle.c_tree.specs.Operators.{numbers_value, quotient_from_0, remainder_from_0, shift_count, shifted_right}
+use Rattle.c_tree.specs.Operators.{shifted_unsigned, signed_quotient, signed_remainder, unsigned_quotient}
+use Rattle.c_tree.specs.Operators.{unsigned_remainder}
 use Rattle.c_tree.specs.Program.{Function}
 use Rattle.c_tree.specs.Store as source
 use Rattle.c_tree.specs.Store.{Held, HoldsNumber, HoldsPointer}
-use Rattle.flow_graph.specs.declared.op.Comparison.{Comparison}
 use Rattle.flow_graph.specs.declared.op.Comparison.TheVariants.{Eq, Ne, Lt, Le, Gt, Ge}
 use Rattle.flow_graph.specs.declared.op.Op.{Op}
 use Rattle.flow_graph.specs.declared.op.Op.TheVariants as op
+use Rattle.flow_graph.specs.declared.op.Order.TheVariants as order
 use Rattle.flow_graph.specs.Graphs.{is_end}
 use Rattle.flow_graph.specs.Kinds.{is_turn, marked}
-use Rattle.flow_graph.specs.Meaning.{act, compared, divided, two_numbers}
+use Rattle.flow_graph.specs.Meaning.{act, divided_unless, two_numbers}
 use Rattle.flow_graph.specs.Running.{outcome_at}
 use Rattle.flow_graph.specs.States as graph
 use Rattle.flow_graph.specs.States.{GraphProgram, number_at, number_of, value_at, with_value}
 use Rattle.lower_lines.specs.Expressions.{new_value}
 use Rattle.lower_lines.specs.Following.{Comes, IsSite, Site, Stand, behind, context_of, graphs_of}
 use Rattle.lower_lines.specs.Lines.{Line, Emit}
-use Rattle.lower_lines.specs.Operators.{computing}
+use Rattle.lower_lines.specs.Operators.{NumberTest, WithSigns, computing, order_in, test_of, test_set}
 use Rattle.lower_lines.specs.Relation.{Keeps, Shows}
 use Rattle.lower_lines.specs.Variables.{ForByte, ForOld, ForScratch, levels_of, local_variables, temporary}
 use Rattle.lower_lines.proofs.Changes.{kept-by-change, kept-none, kept-twice, temporaries-free}
@@ -41,7 +44,7 @@ use Rattle.lower_laws.proofs.Going.{Goes, stand-back, stand-front}
 use Rattle.lower_laws.proofs.Made.{variable-there}
 use Rattle.lower_laws.proofs.Pairs.{goes-both}
 use Rattle.lower_laws.proofs.Widths.{temporary-width}
-use Rattle.lower_laws.proofs.Working.{comparison-is, value-number}
+use Rattle.lower_laws.proofs.Working.{answer, answer-is, answer-value, value-number}
 
 -- ---- what the ops leave
 
@@ -134,16 +137,19 @@ module _ (S : Site) (site : IsSite S) (older : List Function) (level x y : ℕ) 
       )
 
   -- a comparison
-  set-gets : (how : Comparison) → Stand S before (Emit (op.Set how to x y) ∷ [])
-      → Gets S (S.function ∷ older) level before (Emit (op.Set how to x y) ∷ []) t g
-      (Computes (HoldsNumber (if compared how m n then pos 1 else pos 0)))
-  set-gets how here =
-      let (after, at) = put-in g start (if compared how m n then pos 1 else pos 0) in (
-        with_value to (Number (if compared how m n then pos 1 else pos 0)) g,
+  set-gets : (within : IntegerType) (operator : BinaryOp) (test : NumberTest) → test_of within operator ≡ Some test
+      → Stand S before (Emit (test_set test to x y) ∷ [])
+      → Gets S (S.function ∷ older) level before (Emit (test_set test to x y) ∷ []) t g
+      (numbers_value within operator m n)
+  set-gets within operator test is here =
+      let (after, at) = put-in g start (if answer test m n then pos 1 else pos 0) in
+      subst (λ (c : Computed). Gets S (S.function ∷ older) level before (Emit (test_set test to x y) ∷ []) t g c)
+      (answer-value within operator test m n is) (
+        with_value to (Number (if answer test m n then pos 1 else pos 0)) g,
         after,
         at,
-        λ o r. set-step S site before g fits how to x y (compared how m n) t.turns o here
-            (comparison-is how g x y m n at_x at_y) r,
+        λ o r. set-step S site before g fits test to x y (answer test m n) t.turns o here
+            (answer-is test g x y m n at_x at_y) r,
       )
 
   -- ---- a quotient: the dividend is a copy
@@ -172,19 +178,19 @@ module _ (S : Site) (site : IsSite S) (older : List Function) (level x y : ℕ) 
   abbrev copy : Op
   copy = op.Copy z x
 
-  divided-gets : (i : Op) (f : ℤ → ℤ → ℤ) (traps : Bool) → no_quotient m n ≡ traps → is_turn i ≡ false
-      → marked i ≡ None → is_end i ≡ false
-      → ((program : GraphProgram) (u : graph.State) → act program u i ≡ divided program u to z y f)
+  divided-gets : (fails : ℤ → ℤ → Bool) (i : Op) (f : ℤ → ℤ → ℤ) (traps : Bool) → fails m n ≡ traps
+      → is_turn i ≡ false → marked i ≡ None → is_end i ≡ false
+      → ((program : GraphProgram) (u : graph.State) → act program u i ≡ divided_unless fails program u to z y f)
       → Stand S before (Emit copy ∷ Emit i ∷ [])
       → Gets S (S.function ∷ older) level before (Emit copy ∷ Emit i ∷ []) t g
       (if traps then Traps DivideTrap else number (f m n))
-  divided-gets i f true quotient plain unmarked goes does here =
+  divided-gets fails i f true quotient plain unmarked goes does here =
       copy-step S site before g fits z x (Number m) t.turns (outcome_at g (Trapped DivideTrap))
       (stand-front S before (Emit copy ∷ []) (Emit i ∷ []) here) (value-number (value_at g x) m at_x)
-      (divide-traps S site (before ++ Emit copy ∷ []) copied_in fits i to z y f m n t.turns
+      (divide-traps S site (before ++ Emit copy ∷ []) copied_in fits fails i to z y f m n t.turns
       (stand-back S before (Emit copy ∷ []) (Emit i ∷ []) here) plain unmarked
       (does (graphs_of S) (behind (before ++ Emit copy ∷ []) copied_in)) copied-at divisor-at quotient)
-  divided-gets i f false quotient plain unmarked goes does here =
+  divided-gets fails i f false quotient plain unmarked goes does here =
       let (after, at) = put-in copied_in copied-after (f m n) in (
         with_value to (Number (f m n)) copied_in,
         after,
@@ -193,10 +199,28 @@ module _ (S : Site) (site : IsSite S) (older : List Function) (level x y : ℕ) 
             (Emit copy ∷ []) (Emit i ∷ []) [] []
             (λ o r. copy-step S site before g fits z x (Number m) t.turns o
             (stand-front S before (Emit copy ∷ []) (Emit i ∷ []) here) (value-number (value_at g x) m at_x) r)
-            (λ o r. divide-step S site (before ++ Emit copy ∷ []) copied_in fits i to z y f m n t.turns o
+            (λ o r. divide-step S site (before ++ Emit copy ∷ []) copied_in fits fails i to z y f m n t.turns o
             (stand-back S before (Emit copy ∷ []) (Emit i ∷ []) here) plain unmarked goes
             (does (graphs_of S) (behind (before ++ Emit copy ∷ []) copied_in)) copied-at divisor-at quotient r),
       )
+
+  quotient-gets : (signed : Bool) → Stand S before (Emit copy ∷ Emit (if signed then op.Div to z y
+      else op.Udiv to z y) ∷ [])
+      → Gets S (S.function ∷ older) level before (Emit copy ∷ Emit (if signed then op.Div to z y
+      else op.Udiv to z y) ∷ []) t g (if signed then signed_quotient m n else quotient_from_0 m n)
+  quotient-gets true here = divided-gets no_quotient (op.Div to z y) int_div (no_quotient m n) refl refl refl refl
+      (λ program u. refl) here
+  quotient-gets false here = divided-gets no_unsigned_quotient (op.Udiv to z y) unsigned_quotient
+      (no_unsigned_quotient m n) refl refl refl refl (λ program u. refl) here
+
+  remainder-gets : (signed : Bool) → Stand S before (Emit copy ∷ Emit (if signed then op.Rem to z y
+      else op.Urem to z y) ∷ [])
+      → Gets S (S.function ∷ older) level before (Emit copy ∷ Emit (if signed then op.Rem to z y
+      else op.Urem to z y) ∷ []) t g (if signed then signed_remainder m n else remainder_from_0 m n)
+  remainder-gets true here = divided-gets no_quotient (op.Rem to z y) int_rem (no_quotient m n) refl refl refl refl
+      (λ program u. refl) here
+  remainder-gets false here = divided-gets no_unsigned_quotient (op.Urem to z y) unsigned_remainder
+      (no_unsigned_quotient m n) refl refl refl refl (λ program u. refl) here
 
   -- ---- a shift: the count is a byte
 
@@ -245,32 +269,40 @@ module _ (S : Site) (site : IsSite S) (older : List Function) (level x y : ℕ) 
             (does (graphs_of S) (behind (before ++ Emit low ∷ []) counted)) shifted-at count-at r),
       )
 
+  right-shift-gets : (signed : Bool) → Stand S before (Emit low ∷ Emit (if signed then op.Sar to x count
+      else op.Shr to x count) ∷ [])
+      → Gets S (S.function ∷ older) level before (Emit low ∷ Emit (if signed then op.Sar to x count
+      else op.Shr to x count) ∷ []) t g
+      (number (if signed then shifted_right m (shift_count n) else shifted_unsigned m (shift_count n)))
+  right-shift-gets true here = shifted-gets (op.Sar to x count) (λ a b. shifted_right a (shift_count b))
+      (ap (λ (k : ℕ). shifted_right m k) (bytes-count n)) refl refl refl (λ program u. refl) here
+  right-shift-gets false here = shifted-gets (op.Shr to x count) (λ a b. shifted_unsigned a (shift_count b))
+      (ap (λ (k : ℕ). shifted_unsigned m k) (bytes-count n)) refl refl refl (λ program u. refl) here
+
   -- ---- every operator
 
-  pub computing-gets : (operator : BinaryOp) → Stand S before (computing (context_of S) level operator to x y)
-      → Gets S (S.function ∷ older) level before (computing (context_of S) level operator to x y) t g
-      (numbers_value operator m n)
-  computing-gets Multiply here = plain-gets (op.Mul to x y) (λ a b. int_wrap w32 (a *ℤ b)) refl refl refl
+  pub computing-gets : (within : IntegerType) (operator : BinaryOp)
+      → Stand S before (computing (context_of S) level within operator to x y)
+      → Gets S (S.function ∷ older) level before (computing (context_of S) level within operator to x y) t g
+      (numbers_value within operator m n)
+  computing-gets within Multiply here = plain-gets (op.Mul to x y) (λ a b. int_wrap w32 (a *ℤ b)) refl refl refl
       (λ program u. refl) here
-  computing-gets Divide here = divided-gets (op.Div to z y) int_div (no_quotient m n) refl refl refl refl
+  computing-gets within Divide here = quotient-gets (is_signed within) here
+  computing-gets within Remainder here = remainder-gets (is_signed within) here
+  computing-gets within Add here = plain-gets (op.Add to x y) (λ a b. int_wrap w32 (a +ℤ b)) refl refl refl
       (λ program u. refl) here
-  computing-gets Remainder here = divided-gets (op.Rem to z y) int_rem (no_quotient m n) refl refl refl refl
+  computing-gets within Subtract here = plain-gets (op.Sub to x y) (λ a b. int_wrap w32 (a -ℤ b)) refl refl refl
       (λ program u. refl) here
-  computing-gets Add here = plain-gets (op.Add to x y) (λ a b. int_wrap w32 (a +ℤ b)) refl refl refl
-      (λ program u. refl) here
-  computing-gets Subtract here = plain-gets (op.Sub to x y) (λ a b. int_wrap w32 (a -ℤ b)) refl refl refl
-      (λ program u. refl) here
-  computing-gets ShiftLeft here = shifted-gets (op.Shl to x count)
+  computing-gets within ShiftLeft here = shifted-gets (op.Shl to x count)
       (λ a b. int_wrap w32 (a *ℤ pos (2 ^ shift_count b)))
       (ap (λ (k : ℕ). int_wrap w32 (m *ℤ pos (2 ^ k))) (bytes-count n)) refl refl refl (λ program u. refl) here
-  computing-gets ShiftRight here = shifted-gets (op.Sar to x count) (λ a b. shifted_right a (shift_count b))
-      (ap (λ (k : ℕ). shifted_right m k) (bytes-count n)) refl refl refl (λ program u. refl) here
-  computing-gets Less here = set-gets Lt here
-  computing-gets Greater here = set-gets Gt here
-  computing-gets LessOrEqual here = set-gets Le here
-  computing-gets GreaterOrEqual here = set-gets Ge here
-  computing-gets Equal here = set-gets Eq here
-  computing-gets NotEqual here = set-gets Ne here
-  computing-gets BitAnd here = plain-gets (op.And to x y) (int_bit_and w32) refl refl refl (λ program u. refl) here
-  computing-gets BitXor here = plain-gets (op.Xor to x y) (int_bit_xor w32) refl refl refl (λ program u. refl) here
-  computing-gets BitOr here = plain-gets (op.Or to x y) (int_bit_or w32) refl refl refl (λ program u. refl) here
+  computing-gets within ShiftRight here = right-shift-gets (is_signed within) here
+  computing-gets within Less here = set-gets within Less (order_in within Lt order.Lt) refl here
+  computing-gets within Greater here = set-gets within Greater (order_in within Gt order.Gt) refl here
+  computing-gets within LessOrEqual here = set-gets within LessOrEqual (order_in within Le order.Le) refl here
+  computing-gets within GreaterOrEqual here = set-gets within GreaterOrEqual (order_in within Ge order.Ge) refl here
+  computing-gets within Equal here = set-gets within Equal (WithSigns Eq) refl here
+  computing-gets within NotEqual here = set-gets within NotEqual (WithSigns Ne) refl here
+  computing-gets within BitAnd here = plain-gets (op.And to x y) (int_bit_and w32) refl refl refl (λ program u. refl) here
+  computing-gets within BitXor here = plain-gets (op.Xor to x y) (int_bit_xor w32) refl refl refl (λ program u. refl) here
+  computing-gets within BitOr here = plain-gets (op.Or to x y) (int_bit_or w32) refl refl refl (λ program u. refl) here

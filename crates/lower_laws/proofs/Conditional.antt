@@ -1,24 +1,25 @@
 -- `?:` of any type, the unary `+` and a cast to void, whatever is wanted of them.
 use Rattle.c_eval_laws.specs.Bounds.{state_of}
 use Rattle.c_tree.specs.Evaluation.{evaluate}
-use Rattle.c_tree.specs.Operators.{is_true, unary_value}
+use Rattle.c_tree.specs.Operators.{common, is_true, promoted, unary_value}
 use Rattle.c_tree.specs.Program.{Function, int}
 use Rattle.c_tree.specs.Store as source
 use Rattle.c_tree.specs.Store.{Ends, Evaluated, Gives, Held, HoldsNumber, HoldsPointer, and_then}
 use Rattle.c_tree.specs.declared.expression.UnaryOp.TheVariants.{Plus}
-use Rattle.c_tree.specs.declared.types.IntegerType.TheVariants.{Char, Int, Short}
+use Rattle.c_tree.specs.declared.types.IntegerType.{IntegerType}
+use Rattle.c_tree.specs.declared.types.IntegerType.TheVariants.{Char, Int, Short, UnsignedInt}
 use Rattle.c_tree.specs.declared.types.ValueType.TheVariants.{Integer, Pointer, Void}
 use Rattle.c_tree.specs.declared.types.ValueType.{ValueType}
 use Rattle.flow_graph.specs.States as graph
 use Rattle.flow_graph.specs.declared.op.Op.TheVariants as op
 use Rattle.lower_laws.proofs.Binary.{Fits, compound-lowers, turns-fall}
 use Rattle.lower_laws.proofs.ExpressionConditions.{dropped-any}
-use Rattle.lower_laws.proofs.Converting.{IsOnward, as_type, begins-again, casts-lower, in_type-fits}
+use Rattle.lower_laws.proofs.Converting.{IsOnward, as_type, begins-again, casts-lower, kept-fits}
 use Rattle.lower_laws.proofs.Converting.{lowers-fit}
 use Rattle.lower_laws.proofs.Going.{stand-back, stand-front}
 use Rattle.lower_laws.proofs.Leading.{LeadsTo, choose-leads, follows-lead, leads-behind, leads-follow}
 use Rattle.lower_laws.proofs.Leading.{leads-on, one-more, start-goes, start-there, tests_place}
-use Rattle.lower_laws.proofs.Levels.{levels-one}
+use Rattle.lower_laws.proofs.Retyped.{promoted-all}
 use Rattle.lower_laws.proofs.Made.{some-and}
 use Rattle.lower_laws.proofs.Pairs.{Falls}
 use Rattle.lower_laws.proofs.Stepping.{lowers-same}
@@ -342,27 +343,28 @@ choices-lower S site of q a b lq scalar la lb =
     (choice-lowers S site of (part_of (context_of S) q) (part_of (context_of S) a) (part_of (context_of S) b)
     (evaluate S.calls q) _ _ lq scalar la lb (turns-fall S site q))
 
--- two numbers: `int` is the type of both
+-- two numbers, in their common type
 pub conditionals-lower : ConditionalsLower
 conditionals-lower S site q a b t u lq scalar la of lb of' =
-    choices-lower S site int q a b lq scalar (casts-lower S site Int a t la of) (casts-lower S site Int b u lb of')
+    choices-lower S site (Integer (common t u)) q a b lq scalar (casts-lower S site (common t u) a t la of)
+    (casts-lower S site (common t u) b u lb of')
 
 -- ---- the unary `+`
 
-plus-same : (r : Evaluated Held) → and_then r (as_type int) ≡ and_then r (λ v t. Gives (unary_value Int Plus v) t)
-plus-same (Gives (HoldsNumber n) t) = refl
-plus-same (Gives (HoldsPointer array index) t) = refl
-plus-same (Ends end t) = refl
+plus-same : (w : IntegerType) (r : Evaluated Held)
+    → and_then r (as_type (Integer w)) ≡ and_then r (λ v t. Gives (unary_value w Plus v) t)
+plus-same w (Gives (HoldsNumber n) t) = refl
+plus-same w (Gives (HoldsPointer array index) t) = refl
+plus-same w (Ends end t) = refl
 
 pub pluses-lower : PlusesLower
 pluses-lower S site e u lowers of =
-    lowers-same S (unary_part (context_of S) Plus (part_of (context_of S) e)) _ _ (λ s. plus-same
-    (evaluate S.calls e s))
-    (compound-lowers S (unary_part (context_of S) Plus (part_of (context_of S) e)) _ refl refl
+    lowers-same S (unary_part (context_of S) (promoted u) Plus (part_of (context_of S) e)) _ _
+    (λ s. plus-same (promoted u) (evaluate S.calls e s))
+    (compound-lowers S (unary_part (context_of S) (promoted u) Plus (part_of (context_of S) e)) _ refl refl
     (λ older block level wanted before s g stands room may b.
-    in_type-fits S site older Int (part_of (context_of S) e) (evaluate S.calls e) u lowers of (levels-one
-    (context_of S) e)
-    (turns-fall S site e) block level wanted before s g stands room may b))
+    kept-fits S older (promoted u) (promoted-all u) (part_of (context_of S) e) (evaluate S.calls e) u lowers of block level
+    wanted before s g stands room may b))
 
 -- ---- a cast to void
 
@@ -397,6 +399,7 @@ void-fits S older a run la block level (ToLocal k) before s g stands room may b 
     never (Integer Char) h = h
     never (Integer Short) h = h
     never (Integer Int) h = h
+    never (Integer UnsignedInt) h = h
     never (Pointer t) h = h
 
 pub voids-lower : VoidsLower

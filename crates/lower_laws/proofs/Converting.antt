@@ -7,7 +7,7 @@ use Rattle.pcc_base.specs.Outcome.{Number}
 use Rattle.pcc_base.specs.declared.run.Width.TheVariants.{One}
 use Rattle.c_eval_laws.specs.Bounds.{state_of}
 use Rattle.c_tree.specs.declared.types.IntegerType.{IntegerType}
-use Rattle.c_tree.specs.declared.types.IntegerType.TheVariants.{Char, Short, Int}
+use Rattle.c_tree.specs.declared.types.IntegerType.TheVariants.{Char, Short, Int, UnsignedInt}
 use Rattle.c_tree.specs.declared.types.ValueType.{ValueType}
 use Rattle.c_tree.specs.declared.types.ValueType.TheVariants.{Void, Integer, Pointer}
 use Rattle.c_tree.specs.Evaluation.{evaluate}
@@ -36,6 +36,7 @@ use Rattle.lower_laws.proofs.Made.{some-and, variable-there}
 use Rattle.lower_laws.proofs.Operands.{NumberStands, number-operand, integer-not-void}
 use Rattle.lower_laws.proofs.Pairs.{Falls, goes-both}
 use Rattle.lower_laws.proofs.Reading.{copied-goes}
+use Rattle.lower_laws.proofs.Retyped.{HasAll, follows-any, gives-any, may-any}
 use Rattle.lower_laws.proofs.Unary.{follows-behind}
 use Rattle.lower_laws.proofs.Widths.{temporary-width}
 use Rattle.lower_laws.proofs.Working.{Works, value-number}
@@ -134,57 +135,18 @@ lowers-fit S a run lowers active block level wanted before s g stands room may b
   lowers.typed active block level wanted before s g stands room may b,
 )
 
--- ---- one integer type is as good as another
-
-goes-into-any : (t u : IntegerType) (of : ValueType) → GoesInto (Integer t) of → GoesInto (Integer u) of
-goes-into-any t u Void h = absurd h
-goes-into-any t u (Integer Char) h = absurd h
-goes-into-any t u (Integer Short) h = tt
-goes-into-any t u (Integer Int) h = tt
-goes-into-any t u (Pointer w) h = absurd h
-
-pub may-any : (S : Site) (wanted : Wanted) (t u : IntegerType) → MayWant S wanted (Integer t)
-    → MayWant S wanted (Integer u)
-may-any S Dropped t u may = tt
-may-any S Own t u may = integer-not-void u
-may-any S (ToLocal k) t u may =
-    let (l, e, into) = some-and (slice_get S.function.locals k) (λ m. GoesInto (Integer t) m.of) may in
-    subst (λ (o : Option Local). IsSomeAnd o (λ m. GoesInto (Integer u) m.of)) (sym e) (goes-into-any t u l.of into)
-may-any S (Tests yes' no') t u may = (integer-not-void u, may.1, may.2)
-
-holds-any : (S : Site) (level : ℕ) (wanted : Wanted) (t u : IntegerType) (h : graph.State) (v : Held)
-    → HoldsWanted S level wanted (Integer t) h v → HoldsWanted S level wanted (Integer u) h v
-holds-any S level Dropped t u h v holds = tt
-holds-any S level Own t u h (HoldsNumber n) holds = holds
-holds-any S level Own t u h (HoldsPointer array index) holds = absurd holds
-holds-any S level (ToLocal k) t u h v holds = tt
-holds-any S level (Tests yes' no') t u h v holds = tt
-
-is-any : (S : Site) (active : List Function) (t u : IntegerType) (v : Held) → IsOf S.program active (Integer t) v
-    → IsOf S.program active (Integer u) v
-is-any S active t u (HoldsNumber n) is = tt
-is-any S active t u (HoldsPointer array index) is = absurd is
-
-pub fits-any : (S : Site) (active : List Function) (before lines : List Line) (level : ℕ) (wanted : Wanted)
-    (t u : IntegerType) (s : source.State) (g : graph.State) (r : Evaluated Held)
-    → Fits S active before lines level wanted (Integer t) s g r → Fits S active before lines level wanted
-    (Integer u) s g r
-fits-any S active before lines level wanted t u s g (Ends end w) (ends, typed) = (ends, tt)
-fits-any S active before lines level wanted t u s g (Gives v w) ((h, us, shows, keeps, holds, seen, goes), typed) =
-    ((h, us, shows, keeps, holds-any S level wanted t u h v holds, seen, goes), is-any S active t u v typed)
-
 -- ---- conversions
 
 -- a value in a type
 abbrev pub as_type : ValueType → Held → source.State → Evaluated Held
 as_type of v t = Gives (source.in_type of v) t
 
--- every number is one of `int`
-pub int-same : (S : Site) (active : List Function) (u : IntegerType) (r : Evaluated Held)
-    → GivesOf S.program active (Integer u) r → and_then r (as_type int) ≡ r
-int-same S active u (Gives (HoldsNumber n) t) typed = refl
-int-same S active u (Gives (HoldsPointer array index) t) typed = absurd typed
-int-same S active u (Ends end t) typed = refl
+all-same : (S : Site) (active : List Function) (w : IntegerType) → HasAll w → (u : IntegerType) (r : Evaluated Held)
+    → GivesOf S.program active (Integer u) r → and_then r (as_type (Integer w)) ≡ r
+all-same S active w all u (Gives (HoldsNumber n) t) typed =
+    ap (λ (m : ℤ). Gives (HoldsNumber m) t) (all n)
+all-same S active w all u (Gives (HoldsPointer array index) t) typed = absurd typed
+all-same S active w all u (Ends end t) typed = refl
 
 module _ (S : Site) (site : IsSite S) (older : List Function) (level x : ℕ) (n : ℤ) (before : List Line)
     (t : source.State) (g : graph.State) (fits : g.current.function ≡ S.number)
@@ -240,6 +202,12 @@ module _ (S : Site) (site : IsSite S) (older : List Function) (level x : ℕ) (n
     kept-none (local_variables S.function) level g,
     λ to takes here. copied-goes S site before g to.number x t.turns n fits (value-number (value_at g x) n at_x) here,
   )
+  converting-works UnsignedInt = (
+    g,
+    shows,
+    kept-none (local_variables S.function) level g,
+    λ to takes here. copied-goes S site before g to.number x t.turns n fits (value-number (value_at g x) n at_x) here,
+  )
 
 pub narrowed-fits : (S : Site) (site : IsSite S) (older : List Function) (w : IntegerType) (a : Part)
     (run : source.State → Evaluated Held) (u : IntegerType) → Lowers S a run → a.of ≡ Integer u → 1 ≤ a.levels
@@ -269,6 +237,25 @@ narrowed-fits S site older w a run u la of one falls block level wanted before s
       tt,
     ))
 
+-- a part's value in a type that every number is one of
+pub kept-fits : (S : Site) (older : List Function) (w : IntegerType) → HasAll w → (a : Part)
+    (run : source.State → Evaluated Held) (u : IntegerType) → Lowers S a run → a.of ≡ Integer u
+    → (block level : ℕ) (wanted : Wanted) (before : List Line) (s : source.State) (g : graph.State)
+    → Stand S before (a.lines block level wanted) → level + a.levels ≤ levels_of S.function
+    → MayWant S wanted (Integer w) → Begins S (S.function ∷ older) s g
+    → Fits S (S.function ∷ older) before (a.lines block level wanted) level wanted (Integer w) s g
+    (and_then (run s) (as_type (Integer w)))
+kept-fits S older w all a run u la of block level wanted before s g stands room may b =
+    let fits = subst (λ (p : ValueType). Fits S (S.function ∷ older) before (a.lines block level wanted) level wanted p
+    s g (run s)) of
+    (lowers-fit S a run la (S.function ∷ older) block level wanted before s g stands room
+    (subst (λ (p : ValueType). MayWant S wanted p) (sym of) (may-any S wanted w u may)) b) in
+    subst (λ (r : Evaluated Held). Fits S (S.function ∷ older) before (a.lines block level wanted) level wanted
+    (Integer w) s g r) (sym (all-same S (S.function ∷ older) w all u (run s) fits.1)) (
+      follows-any S (S.function ∷ older) before (a.lines block level wanted) level wanted u w s g (run s) fits.0,
+      gives-any S (S.function ∷ older) u w (run s) fits.1,
+    )
+
 -- a part's value in an integer type
 pub in_type-fits : (S : Site) (site : IsSite S) (older : List Function) (w : IntegerType) (a : Part)
     (run : source.State → Evaluated Held) (u : IntegerType) → Lowers S a run → a.of ≡ Integer u → 1 ≤ a.levels
@@ -283,15 +270,9 @@ in_type-fits S site older Char a run u la of one falls block level wanted before
 in_type-fits S site older Short a run u la of one falls block level wanted before s g stands room may b =
     narrowed-fits S site older Short a run u la of one falls block level wanted before s g stands room may b
 in_type-fits S site older Int a run u la of one falls block level wanted before s g stands room may b =
-    let fits = subst (λ (p : ValueType). Fits S (S.function ∷ older) before
-    (a.lines block level wanted) level wanted p s
-    g (run s)) of
-    (lowers-fit S a run la (S.function ∷ older) block level wanted before s g stands room
-    (subst (λ (p : ValueType). MayWant S wanted p) (sym of) (may-any S wanted Int u may)) b) in
-    subst (λ (r : Evaluated Held). Fits S (S.function ∷ older) before (a.lines block level wanted) level wanted int s g
-    r)
-    (sym (int-same S (S.function ∷ older) u (run s) fits.1))
-    (fits-any S (S.function ∷ older) before (a.lines block level wanted) level wanted u Int s g (run s) fits)
+    kept-fits S older Int (λ n. refl) a run u la of block level wanted before s g stands room may b
+in_type-fits S site older UnsignedInt a run u la of one falls block level wanted before s g stands room may b =
+    kept-fits S older UnsignedInt (λ n. refl) a run u la of block level wanted before s g stands room may b
 
 pub casts-lower : CastsLower
 casts-lower S site w e u lowers of =

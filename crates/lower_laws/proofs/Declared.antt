@@ -9,7 +9,7 @@ use Rattle.pcc_base.specs.declared.run.Width.{Width}
 use Rattle.pcc_base.specs.declared.run.Width.TheVariants.{One, Two}
 use Rattle.c_eval_laws.proofs.After.{local-follows}
 use Rattle.c_eval_laws.proofs.Keeping.{gives-keeps}
-use Rattle.c_tree.specs.declared.types.IntegerType.TheVariants.{Char, Short, Int}
+use Rattle.c_tree.specs.declared.types.IntegerType.TheVariants.{Char, Short, Int, UnsignedInt}
 use Rattle.c_tree.specs.declared.types.ValueType.{ValueType}
 use Rattle.c_tree.specs.declared.types.ValueType.TheVariants.{Void, Integer, Pointer}
 use Rattle.c_tree.specs.Evaluation.{type_at, type_of}
@@ -86,6 +86,7 @@ zero-goes S site local l e (Integer t) is scalar active before s g b stands =
     one-wide Char = omega arith
     one-wide Short = omega arith
     one-wide Int = omega arith
+    one-wide UnsignedInt = omega arith
 zero-goes S site local l e (Pointer t) is scalar active before s g b stands =
     let v = first_variable S.function.locals local in
     let h = with_value v (Number (pos 0)) g in

@@ -193,18 +193,18 @@ module _ (S : Site) (site : IsSite S) (older : List Function) (t : IntegerType) 
     old-not-byte : (a : ℕ) → a + 2 ≡ a + 4 → ⊥
     old-not-byte a e = omega (arith, e)
 
-    pub computed-fits : (operator : BinaryOp) (x : ℕ) (n : ℤ) → suc level < levels_of S.function
-        → number_at i x ≡ Some n → x ≢ temporary (context_of S) level ForScratch
-        → Stand S before (computing (context_of S) level operator (new_value (context_of S) level)
+    pub computed-fits : (within : IntegerType) (operator : BinaryOp) (x : ℕ) (n : ℤ)
+        → suc level < levels_of S.function → number_at i x ≡ Some n → x ≢ temporary (context_of S) level ForScratch
+        → Stand S before (computing (context_of S) level within operator (new_value (context_of S) level)
         (old_value (context_of S) level) x ++ (saving ∷ final))
-        → Fits S (S.function ∷ older) before (computing (context_of S) level operator (new_value (context_of S) level)
+        → Fits S (S.function ∷ older) before (computing (context_of S) level within operator (new_value (context_of S) level)
         (old_value (context_of S) level) x ++ (saving ∷ final)) level wanted (Integer t) y i
-        (and_then (and_then (computed (numbers_value operator m n) y)
+        (and_then (and_then (computed (numbers_value within operator m n) y)
         (λ new z. store (AtIndex array index) (source.in_type (Integer t) new) z)) picked)
-    computed-fits operator x n room at_x apart stands =
-        worked-fits (computing (context_of S) level operator (new_value (context_of S) level)
-        (old_value (context_of S) level) x) (numbers_value operator m n)
+    computed-fits within operator x n room at_x apart stands =
+        worked-fits (computing (context_of S) level within operator (new_value (context_of S) level)
+        (old_value (context_of S) level) x) (numbers_value within operator m n)
         (computing-gets S site older level (old_value (context_of S) level) x m n before y i fits shows room at_old at_x
-        (λ e. old-not-byte (local_variables S.function + level * 5) e) apart operator
-        (stand-front S before (computing (context_of S) level operator (new_value (context_of S) level)
+        (λ e. old-not-byte (local_variables S.function + level * 5) e) apart within operator
+        (stand-front S before (computing (context_of S) level within operator (new_value (context_of S) level)
         (old_value (context_of S) level) x) (saving ∷ final) stands)) stands

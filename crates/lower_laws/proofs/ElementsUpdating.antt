@@ -14,7 +14,7 @@ use Rattle.c_tree.specs.declared.types.IntegerType.{IntegerType}
 use Rattle.c_tree.specs.declared.types.IntegerType.TheVariants.{Int}
 use Rattle.c_tree.specs.declared.types.ValueType.TheVariants.{Integer, Pointer}
 use Rattle.c_tree.specs.Evaluation.{AtIndex, Found, InLocal, InObject, element_read, load, updated}
-use Rattle.c_tree.specs.Operators.{step_op, step_result}
+use Rattle.c_tree.specs.Operators.{step_op, step_result, step_type, working_type}
 use Rattle.c_tree.specs.Program.{Function}
 use Rattle.c_tree.specs.Store as source
 use Rattle.c_tree.specs.Store.{Evaluated, Gives, Ends, Held, HoldsNumber, HoldsPointer, and_then, array_named}
@@ -33,7 +33,7 @@ use Rattle.lower_lines.specs.Variables.{ForOld, Spot, levels_of, local_variables
 use Rattle.lower_lines.proofs.Changes.{kept-below, kept-by-change, temporaries-free}
 use Rattle.lower_lines.proofs.Locals.{get-set_other, get-set_same}
 use Rattle.lower_laws.proofs.Atoms.{constants-lower}
-use Rattle.lower_laws.proofs.Binary.{Fits, compound-lowers}
+use Rattle.lower_laws.proofs.Binary.{Fits, compound-lowers, works-in}
 use Rattle.lower_laws.proofs.Converting.{begins-again}
 use Rattle.lower_laws.proofs.Going.{stand-back, stand-front}
 use Rattle.lower_laws.proofs.Made.{variable-there}
@@ -104,13 +104,13 @@ abbrev loading : Site → IntegerType → ℕ → Spot → Line
 loading S t level spot = Emit (op.Load (bits_of t) (old_value (context_of S) level) spot.array spot.number)
 
 -- what the source does, where what is wanted is picked of the old and the new value
-abbrev changing : IntegerType → BinaryOp → (source.State → Evaluated Found) → (source.State → Evaluated Held)
-    → (Held → Held → Held) → source.State → Evaluated Held
-changing t operator run run' pick s =
+abbrev changing : IntegerType → IntegerType → BinaryOp → (source.State → Evaluated Found)
+    → (source.State → Evaluated Held) → (Held → Held → Held) → source.State → Evaluated Held
+changing t within operator run run' pick s =
     and_then (run s) (λ found u. and_then (load found u) (λ old v. and_then (run' v) (λ x w.
-    and_then (updated (Integer t) operator found old x w) (λ new z. Gives (pick old new) z))))
+    and_then (updated (Integer t) within operator found old x w) (λ new z. Gives (pick old new) z))))
 
-module _ (S : Site) (site : IsSite S) (t : IntegerType) (operator : BinaryOp) (to : Addressed)
+module _ (S : Site) (site : IsSite S) (t within : IntegerType) (operator : BinaryOp) (to : Addressed)
     (run : source.State → Evaluated Found) (reaches : AddressFollows S t to run) (clear : IsClear S to)
     (falls : KeepsTurns run) (a : Part) (run' : source.State → Evaluated Held) (u : IntegerType)
     (lowers : Lowers S a run') (of : a.of ≡ Integer u) (some : 1 ≤ a.levels) (pick : Held → Held → Held)
@@ -131,7 +131,8 @@ module _ (S : Site) (site : IsSite S) (t : IntegerType) (operator : BinaryOp) (t
   x = ((operand (context_of S) true a).spot (suc level)).number
 
   abbrev last : List Line
-  last = computing (context_of S) level operator (new_value (context_of S) level) (old_value (context_of S) level) x
+  last = computing (context_of S) level within operator (new_value (context_of S) level)
+      (old_value (context_of S) level) x
       ++ (Emit (op.Store (bits_of t) spot.array spot.number (new_value (context_of S) level)) ∷ final)
 
   plain : IsPlainSpot S level spot
@@ -154,7 +155,7 @@ module _ (S : Site) (site : IsSite S) (t : IntegerType) (operator : BinaryOp) (t
 
   -- the right side has been evaluated
   abbrev behind_right : ArrayName → ℤ → ℤ → Held → source.State → Evaluated Held
-  behind_right array index m y w = and_then (updated (Integer t) operator (AtIndex array index) (HoldsNumber m) y w)
+  behind_right array index m y w = and_then (updated (Integer t) within operator (AtIndex array index) (HoldsNumber m) y w)
       (λ new z. Gives (pick (HoldsNumber m) new) z)
 
   old-low : (a b : ℕ) → a ≤ a + b + 2
@@ -184,7 +185,7 @@ module _ (S : Site) (site : IsSite S) (t : IntegerType) (operator : BinaryOp) (t
       let old = ap number_of (keeps.temporaries (old_value (context_of S) level)
       (old-low (local_variables S.function) (level * 5)) (old-high (local_variables S.function) level)) ∙ at_old in
       let rest = computed-fits S site older t array index spot is level m wanted final pick finishes plain
-      (front' ++ middle) z i (keeps.function ∙ begins.function) shows stays old operator x n room-last at
+      (front' ++ middle) z i (keeps.function ∙ begins.function) shows stays old within operator x n room-last at
       (apart-scratch S level (suc level) x (operand-placed S a run' u true lowers of (suc level)) (omega arith))
       (stand-back S front' middle last stands) in
       subst (λ (y : Held). Fits S (S.function ∷ older) front' (middle ++ last) level wanted (Integer t) w h
@@ -197,7 +198,7 @@ module _ (S : Site) (site : IsSite S) (t : IntegerType) (operator : BinaryOp) (t
   -- the address has been found, and the element is loaded
   abbrev behind_found : Found → source.State → Evaluated Held
   behind_found found w = and_then (load found w) (λ old v. and_then (run' v) (λ y v'.
-      and_then (updated (Integer t) operator found old y v') (λ new z. Gives (pick old new) z)))
+      and_then (updated (Integer t) within operator found old y v') (λ new z. Gives (pick old new) z)))
 
   loaded-fits : (w : source.State) (h : graph.State) (array : ArrayName) (index : ℤ) (element : Option ℤ)
       → source.element_at (array_named w array) index ≡ element
@@ -207,7 +208,7 @@ module _ (S : Site) (site : IsSite S) (t : IntegerType) (operator : BinaryOp) (t
       → Fits S (S.function ∷ older) (before ++ front) (loading S t level spot ∷ (middle ++ last)) level wanted
       (Integer t) w h
       (and_then (element_read w element) (λ old v. and_then (run' v) (λ y v'.
-      and_then (updated (Integer t) operator (AtIndex array index) old y v') (λ new z. Gives (pick old new) z))))
+      and_then (updated (Integer t) within operator (AtIndex array index) old y v') (λ new z. Gives (pick old new) z))))
   loaded-fits w h array index None there stands begins holds is = (
     trap-ends S (S.function ∷ older) w h (before ++ front) begins.shows
         (load-trapped S site older t (before ++ front) w h begins.function begins.shows array index spot holds is
@@ -264,7 +265,7 @@ module _ (S : Site) (site : IsSite S) (t : IntegerType) (operator : BinaryOp) (t
 
   pub changed-fits : Stand S before (front ++ (loading S t level spot ∷ (middle ++ last)))
       → Fits S (S.function ∷ older) before (front ++ (loading S t level spot ∷ (middle ++ last))) level wanted
-      (Integer t) s g (changing t operator run run' pick s)
+      (Integer t) s g (changing t within operator run run' pick s)
   changed-fits stands =
       found-fits (run s) (falls s) stands
       (reaches (S.function ∷ older) a.simple block level before s g
@@ -299,40 +300,46 @@ alone : (r : Evaluated Held) → and_then r (λ new z. Gives new z) ≡ r
 alone (Gives v t) = refl
 alone (Ends end t) = refl
 
-right-same : (t : IntegerType) (operator : BinaryOp) (found : Found) (old : Held) (r : Evaluated Held)
-    → and_then r (λ x w. and_then (updated (Integer t) operator found old x w) (λ new z. Gives new z))
-    ≡ and_then r (updated (Integer t) operator found old)
-right-same t operator found old (Gives x w) = alone (updated (Integer t) operator found old x w)
-right-same t operator found old (Ends end w) = refl
+right-same : (t within : IntegerType) (operator : BinaryOp) (found : Found) (old : Held) (r : Evaluated Held)
+    → and_then r (λ x w. and_then (updated (Integer t) within operator found old x w) (λ new z. Gives new z))
+    ≡ and_then r (updated (Integer t) within operator found old)
+right-same t within operator found old (Gives x w) = alone (updated (Integer t) within operator found old x w)
+right-same t within operator found old (Ends end w) = refl
 
-old-same : (t : IntegerType) (operator : BinaryOp) (found : Found) (run' : source.State → Evaluated Held)
+old-same : (t within : IntegerType) (operator : BinaryOp) (found : Found) (run' : source.State → Evaluated Held)
     (r : Evaluated Held)
-    → and_then r (λ old v. and_then (run' v) (λ x w. and_then (updated (Integer t) operator found old x w) (λ new z.
-    Gives new z))) ≡ and_then r (λ old v. and_then (run' v) (updated (Integer t) operator found old))
-old-same t operator found run' (Gives old v) = right-same t operator found old (run' v)
-old-same t operator found run' (Ends end v) = refl
+    → and_then r (λ old v. and_then (run' v) (λ x w. and_then (updated (Integer t) within operator found old x w) (λ new z.
+    Gives new z))) ≡ and_then r (λ old v. and_then (run' v) (updated (Integer t) within operator found old))
+old-same t within operator found run' (Gives old v) = right-same t within operator found old (run' v)
+old-same t within operator found run' (Ends end v) = refl
 
-found-same : (t : IntegerType) (operator : BinaryOp) (run' : source.State → Evaluated Held) (r : Evaluated Found)
+found-same : (t within : IntegerType) (operator : BinaryOp) (run' : source.State → Evaluated Held) (r : Evaluated Found)
     → and_then r (λ found u. and_then (load found u) (λ old v. and_then (run' v) (λ x w.
-    and_then (updated (Integer t) operator found old x w) (λ new z. Gives new z))))
-    ≡ and_then r (λ found u. and_then (load found u) (λ old v. and_then (run' v) (updated (Integer t) operator found
+    and_then (updated (Integer t) within operator found old x w) (λ new z. Gives new z))))
+    ≡ and_then r (λ found u. and_then (load found u) (λ old v. and_then (run' v) (updated (Integer t) within operator found
     old)))
-found-same t operator run' (Gives found u) = old-same t operator found run' (load found u)
-found-same t operator run' (Ends end u) = refl
+found-same t within operator run' (Gives found u) = old-same t within operator found run' (load found u)
+found-same t within operator run' (Ends end u) = refl
 
 pub elements-updated : ElementsAreUpdated
 elements-updated S site t operator to run reaches clear falls a run' u lowers of some =
-    lowers-same S (updated_element (context_of S) t operator to a) (changing t operator run run' (λ old new. new))
-    (updating t operator run run') (λ s. found-same t operator run' (run s))
+    subst (λ (w : IntegerType). Lowers S (updated_element (context_of S) t operator to a)
+    (updating t w operator run run')) (sym (works-in operator (Integer t) a.of t u refl of))
+    (lowers-same S (updated_element (context_of S) t operator to a)
+    (changing t within operator run run' (λ old new. new)) (updating t within operator run run')
+    (λ s. found-same t within operator run' (run s))
     (compound-lowers S (updated_element (context_of S) t operator to a)
-    (changing t operator run run' (λ old new. new)) refl refl
+    (changing t within operator run run' (λ old new. new)) refl refl
     (λ older block level wanted before s g stands room may b.
-    changed-fits S site t operator to run reaches clear falls a run' u lowers of some (λ old new. new) older block level
-    wanted before s g room b
+    changed-fits S site t within operator to run reaches clear falls a run' u lowers of some (λ old new. new) older block
+    level wanted before s g room b
     (converted_lines (context_of S) (block + to.blocks + (operand (context_of S) true a).blocks) level wanted t
     (new_value (context_of S) level))
     (new-finishes S site older level wanted t (block + to.blocks + (operand (context_of S) true a).blocks)
-    (deep level to.levels a.levels (levels_of S.function) room) may) stands))
+    (deep level to.levels a.levels (levels_of S.function) room) may) stands)))
+  where
+    within : IntegerType
+    within = working_type operator (Integer t) a.of
 
 -- ---- `++` and `--`
 
@@ -346,7 +353,7 @@ steps-lower : (S : Site) (site : IsSite S) (t : IntegerType) (operator : StepOp)
 steps-lower S site t operator to run reaches clear falls finishes =
     compound-lowers S (stepped_element (context_of S) operator t to) (stepping t operator run) refl refl
     (λ older block level wanted before s g stands room may b.
-    changed-fits S site t (step_op operator) to run reaches clear falls (one_part (context_of S))
+    changed-fits S site t (step_type operator (Integer t)) (step_op operator) to run reaches clear falls (one_part (context_of S))
     (λ v. Gives (HoldsNumber (pos 1)) v) Int (constants-lower S site Int (pos 1)) refl (omega arith)
     (step_result operator) older block level wanted before s g room b
     (step_value (context_of S) operator (block + to.blocks) level wanted t)

@@ -7,11 +7,10 @@ use Rattle.c_tree.specs.declared.expression.BinaryOp.TheVariants.{ShiftLeft, Shi
 use Rattle.c_tree.specs.declared.expression.BinaryOp.TheVariants.{GreaterOrEqual, Equal, NotEqual, BitAnd, BitXor}
 use Rattle.c_tree.specs.declared.expression.BinaryOp.TheVariants.{BitOr}
 use Rattle.c_tree.specs.declared.types.IntegerType.{IntegerType}
-use Rattle.c_tree.specs.declared.types.IntegerType.TheVariants.{Char, Short, Int}
+use Rattle.c_tree.specs.declared.types.IntegerType.TheVariants.{Char, Short, Int, UnsignedInt}
 use Rattle.c_tree.specs.declared.types.ValueType.{ValueType}
 use Rattle.c_tree.specs.declared.types.ValueType.TheVariants.{Void, Integer, Pointer}
 use Rattle.c_tree.specs.Program.{int}
-use Rattle.c_tree.specs.WellTyped.{BinaryGives}
 use Rattle.flow_graph.specs.declared.op.Op.TheVariants as op
 use Rattle.lower_lines.specs.Expressions.{and_part, and_test}
 use Rattle.lower_lines.specs.Expressions.{binary_part}
@@ -26,7 +25,7 @@ use Rattle.lower_lines.specs.Parts.{Wanted, Dropped, Own, ToLocal, Tests, Part, 
 use Rattle.lower_lines.specs.Parts.{converting, in_type, narrowed, operand}
 use Rattle.lower_lines.specs.Variables.{Context}
 use Rattle.lower_laws.specs.FitsLaws.{Room}
-use Rattle.lower_laws.proofs.Pieces.{Fit, May, applied-fit, blocks_in}
+use Rattle.lower_laws.proofs.Pieces.{Fit, LinesGive, May, applied-fit, blocks_in}
 use Rattle.lower_laws.proofs.Pieces.{context_in, converting-fit}
 use Rattle.lower_laws.proofs.Pieces.{fit-then, levels_in}
 use Rattle.lower_laws.proofs.Pieces.{made-number-fit, may-integer, may-pointer, null-fit}
@@ -118,7 +117,7 @@ module _ (R : Room) where
   pointers-alike BitXor holds fails = refl
   pointers-alike BitOr holds fails = refl
 
-  pub binary-part : (of : ValueType) (operator : BinaryOp) (a b : Part) → BinaryGives operator a.of b.of of
+  pub binary-part : (of : ValueType) (operator : BinaryOp) (a b : Part) → LinesGive operator a.of b.of of
       → FitsPart R a → FitsPart R b → FitsPart R (binary_part c of operator a b)
   binary-part of operator a b gives h h' =
       let x = operand c b.simple a in
@@ -272,6 +271,7 @@ module _ (R : Room) where
   turned-part (Integer Short) a turns h =
       let (u, e) = integer-turned Short a.of turns in narrowed-part Short u a e h
   turned-part (Integer Int) a turns h = h
+  turned-part (Integer UnsignedInt) a turns h = h
   turned-part (Pointer t) a turns h = pointer-part t a.of a h
 
   -- what may be wanted of the type may be wanted of what is in it
@@ -282,6 +282,9 @@ module _ (R : Room) where
   turned-may w (Integer Int) a turns m =
       let (u, e) = integer-turned Int a.of turns in
       subst (λ (t : ValueType). May R w t) (sym e) (may-integer R w Int u m)
+  turned-may w (Integer UnsignedInt) a turns m =
+      let (u, e) = integer-turned UnsignedInt a.of turns in
+      subst (λ (t : ValueType). May R w t) (sym e) (may-integer R w UnsignedInt u m)
   turned-may w (Pointer t) a turns m = by a.of refl
     where
       by : (of : ValueType) → a.of ≡ of → May R w (as_pointer c t of a).of

@@ -9,7 +9,7 @@ use Rattle.c_tree.specs.declared.expression.ArrayRef.TheVariants as refs
 use Rattle.c_tree.specs.declared.expression.UnaryOp.{UnaryOp}
 use Rattle.c_tree.specs.declared.expression.UnaryOp.TheVariants.{Plus, Minus, Complement, Not}
 use Rattle.c_tree.specs.declared.types.IntegerType.{IntegerType}
-use Rattle.c_tree.specs.declared.types.IntegerType.TheVariants.{Char, Short, Int}
+use Rattle.c_tree.specs.declared.types.IntegerType.TheVariants.{Char, Short, Int, UnsignedInt}
 use Rattle.c_tree.specs.declared.types.ValueType.{ValueType}
 use Rattle.c_tree.specs.declared.types.ValueType.TheVariants.{Void, Integer, Pointer}
 use Rattle.c_tree.specs.Program.{int, Local}
@@ -26,7 +26,7 @@ use Rattle.lower_lines.specs.Expressions.{test_blocks_of}
 use Rattle.lower_lines.specs.Expressions.{unary_part}
 use Rattle.lower_lines.specs.Lines.{Emit}
 use Rattle.lower_lines.specs.Parts.{Wanted, Dropped, Own, ToLocal, Tests, Part, bits_of}
-use Rattle.lower_lines.specs.Parts.{if_stays, operand, standing, tested_blocks}
+use Rattle.lower_lines.specs.Parts.{if_stays, operand, retyped, standing, tested_blocks}
 use Rattle.lower_lines.specs.Variables.{Context, Spot, local_spot, own}
 use Rattle.lower_laws.specs.FitsLaws.{IsGood, Room}
 use Rattle.lower_laws.proofs.Pieces.{Fit, Holds, May, Wide, blocks_in, byte-holds}
@@ -176,6 +176,14 @@ module _ (R : Room) where
     some = omega arith;
     tests = λ holds fails. refl;
   }
+  local-part (Integer UnsignedInt) k l at e = record {
+    fits = λ block level w room more m. reading-fit block level w (Integer UnsignedInt) (local_spot c k)
+        (omega (arith, room)) m (local-holds R k l (Integer UnsignedInt) at e tt) more;
+    stands = λ s e'. subst (λ (q : Spot). Wide R q.number) (some-same (local_spot c k) s e')
+        (local-holds R k l (Integer UnsignedInt) at e tt);
+    some = omega arith;
+    tests = λ holds fails. refl;
+  }
   local-part (Pointer t) k l at e = record {
     fits = λ block level w room more m. reading-fit block level w (Pointer t) (local_spot c k)
         (omega (arith, room)) m (local-holds R k l (Pointer t) at e tt) more;
@@ -238,15 +246,28 @@ module _ (R : Room) where
   UnaryFits Not of = Unit {0}
   UnaryFits _ of = (u : IntegerType) × (of ≡ Integer u)
 
-  pub unary-part : (operator : UnaryOp) (a : Part) (of : IntegerType) → UnaryFits operator a.of → FitsPart a
-      → FitsPart (unary_part c operator a)
-  unary-part Plus a of (u, e) h = record {
+  -- the same lines for another integer type
+  retyped-part : (of t : IntegerType) (a : Part) → a.of ≡ Integer t → FitsPart a → a.stands ≡ None
+      → FitsPart (retyped of a)
+  retyped-part of t a e h none = record {
     fits = λ block level w room more m. h.fits block level w room more
-        (subst (λ (t : ValueType). May R w t) (sym e) (may-integer R w Int u m));
+        (subst (λ (v : ValueType). May R w v) (sym e) (may-integer R w of t m));
     stands = λ s e'. absurd (cc);
     some = h.some;
     tests = h.tests;
   }
-  unary-part Minus a of (u, e) h = number-part op.Neg a u e (λ d s k k'. ((k, (k', tt)), tt)) h
-  unary-part Complement a of (u, e) h = number-part op.Not a u e (λ d s k k'. ((k, (k', tt)), tt)) h
-  unary-part Not a of e h = negated-part a h
+
+  pub unary-part : (operator : UnaryOp) (a : Part) (of : IntegerType) → UnaryFits operator a.of → FitsPart a
+      → FitsPart (unary_part c of operator a)
+  unary-part Plus a of (u, e) h = record {
+    fits = λ block level w room more m. h.fits block level w room more
+        (subst (λ (t : ValueType). May R w t) (sym e) (may-integer R w of u m));
+    stands = λ s e'. absurd (cc);
+    some = h.some;
+    tests = h.tests;
+  }
+  unary-part Minus a of (u, e) h = retyped-part of Int (number_part c op.Neg a) refl
+      (number-part op.Neg a u e (λ d s k k'. ((k, (k', tt)), tt)) h) refl
+  unary-part Complement a of (u, e) h = retyped-part of Int (number_part c op.Not a) refl
+      (number-part op.Not a u e (λ d s k k'. ((k, (k', tt)), tt)) h) refl
+  unary-part Not a of e h = retyped-part of Int (negated c a) refl (negated-part a h) refl

@@ -10,10 +10,10 @@ use Rattle.c_tree.specs.declared.expression.StepOp.{StepOp}
 use Rattle.c_tree.specs.declared.expression.StepOp.TheVariants.{PreIncrement, PreDecrement, PostIncrement}
 use Rattle.c_tree.specs.declared.expression.StepOp.TheVariants.{PostDecrement}
 use Rattle.c_tree.specs.declared.types.IntegerType.{IntegerType}
-use Rattle.c_tree.specs.declared.types.IntegerType.TheVariants.{Char, Short, Int}
+use Rattle.c_tree.specs.declared.types.IntegerType.TheVariants.{Char, Short, Int, UnsignedInt}
 use Rattle.c_tree.specs.declared.types.ValueType.{ValueType}
 use Rattle.c_tree.specs.declared.types.ValueType.TheVariants.{Void, Integer, Pointer}
-use Rattle.c_tree.specs.Operators.{step_op}
+use Rattle.c_tree.specs.Operators.{step_op, step_type, working_type}
 use Rattle.c_tree.specs.Program.{int, Local}
 use Rattle.c_tree.specs.WellTyped.{BinaryGives, IsResult}
 use Rattle.flow_graph.specs.declared.op.Op.TheVariants as op
@@ -37,7 +37,7 @@ use Rattle.lower_lines.specs.Parts.{if_stays, in_type, operand, standing, tested
 use Rattle.lower_lines.specs.Variables.{Context, ForArray, ForNumber, ForOld, Spot, copied, own, temporary}
 use Rattle.lower_laws.specs.FitsLaws.{Room}
 use Rattle.lower_laws.proofs.Pieces.{Fit, Holds, IsWide, May, Wide, blocks_in, byte-holds}
-use Rattle.lower_laws.proofs.Pieces.{computing-fit, context_in, converted-fit}
+use Rattle.lower_laws.proofs.Pieces.{LinesGive, computing-fit, context_in, converted-fit, lines-give}
 use Rattle.lower_laws.proofs.Pieces.{copied-fit, delivered-fit, fit-then, levels_in, local-holds}
 use Rattle.lower_laws.proofs.Pieces.{made-number-fit, may-pointer, own-holds, small}
 use Rattle.lower_laws.proofs.Pieces.{number-blocks, temp}
@@ -82,8 +82,8 @@ updates-number operator (Pointer t) Void h = absurd h
 updates-number operator (Pointer t) (Pointer u) h = absurd h
 
 pub update-gives : (operator : BinaryOp) (of from : ValueType) → CanUpdate operator of from
-    → BinaryGives operator of from (result_type of)
-update-gives operator (Integer t) (Integer u) h = refl
+    → LinesGive operator of from (result_type of)
+update-gives operator (Integer t) (Integer u) h = tt
 update-gives Add (Pointer t) (Integer u) h = refl
 update-gives Subtract (Pointer t) (Integer u) h = refl
 update-gives Multiply (Pointer t) (Integer u) h = absurd h
@@ -199,7 +199,8 @@ module _ (R : Room) where
           temp R level ForNumber low,
         );
         value = binary-part R (Pointer element) Add a b
-            (subst (λ (s : ValueType). BinaryGives Add s b.of (Pointer element)) (sym e) gives) h h';
+            (subst (λ (s : ValueType). LinesGive Add s b.of (Pointer element)) (sym e)
+            (lines-give Add (Pointer t) b.of (Pointer element) gives)) h h';
         pointer = (element, refl);
         some = let s = h.some in omega (arith, s);
       }
@@ -221,7 +222,8 @@ module _ (R : Room) where
             (number-there R b.simple a t e h level low)));
         spot = λ stays level low. (temp R level ForArray low, temp R level ForNumber low);
         value = binary-part R (Pointer element) Add a b
-            (subst (λ (s : ValueType). BinaryGives Add s b.of (Pointer element)) (sym e) gives) h h';
+            (subst (λ (s : ValueType). LinesGive Add s b.of (Pointer element)) (sym e)
+            (lines-give Add (Integer t) b.of (Pointer element) gives)) h h';
         pointer = (element, refl);
         some = let s = h.some in omega (arith, s);
       }
@@ -276,6 +278,7 @@ module _ (R : Room) where
   local-levels (Integer Char) k = refl
   local-levels (Integer Short) k = refl
   local-levels (Integer Int) k = refl
+  local-levels (Integer UnsignedInt) k = refl
   local-levels (Pointer t) k = refl
 
   local-blocks : (of : ValueType) (k : ℕ) (w : Wanted) → (local_part c of k).blocks w ≤ tested_blocks w of
@@ -283,6 +286,7 @@ module _ (R : Room) where
   local-blocks (Integer Char) k w = omega arith
   local-blocks (Integer Short) k w = omega arith
   local-blocks (Integer Int) k w = omega arith
+  local-blocks (Integer UnsignedInt) k w = omega arith
   local-blocks (Pointer t) k w = omega arith
 
   local-read : (of : ValueType) (k : ℕ) (l : Local) → slice_get R.function.locals k ≡ Some l → l.of ≡ of
@@ -356,6 +360,9 @@ module _ (R : Room) where
   assigned-local (Integer Int) k l at e a becomes h =
       let (v, lines) = wide-local (Integer Int) a k l at e tt becomes h in
       record { fits = lines; stands = λ s e'. absurd (cc); some = v.some; tests = λ holds fails. refl }
+  assigned-local (Integer UnsignedInt) k l at e a becomes h =
+      let (v, lines) = wide-local (Integer UnsignedInt) a k l at e tt becomes h in
+      record { fits = lines; stands = λ s e'. absurd (cc); some = v.some; tests = λ holds fails. refl }
   assigned-local (Pointer t) k l at e a becomes h =
       let (v, lines) = wide-local (Pointer t) a k l at e tt becomes h in
       record { fits = lines; stands = λ s e'. absurd (cc); some = v.some; tests = λ holds fails. refl }
@@ -415,6 +422,7 @@ module _ (R : Room) where
       → a.of ≡ Integer u → FitsAddress to → FitsPart R a → FitsPart R (updated_element c t operator to a)
   updated-element t operator to a u e h h' =
       let x = operand c true a in
+      let within = working_type operator (Integer t) a.of in
       record {
         fits = λ block level w room more m.
             let s' = h'.some in
@@ -430,10 +438,9 @@ module _ (R : Room) where
               fit-then R (x.lines (block + to.blocks) (suc level)) _
                   (operand-fit R true a h' (block + to.blocks) (suc level) (omega (arith, room)) (omega (arith, more)))
                   (fit-then R
-                  (computing c level operator (new_value c level) (old_value c level) (x.spot (suc level)).number) _
-                  (computing-fit R level operator (new_value c level) (old_value c level) (x.spot (suc level)).number
-                  low
-                  new old n) (
+                  (computing c level within operator (new_value c level) (old_value c level) (x.spot (suc level)).number) _
+                  (computing-fit R level within operator (new_value c level) (old_value c level)
+                  (x.spot (suc level)).number low new old n) (
                     ((at.0, (at.1, (new, tt))), tt),
                     converted-fit R (block + to.blocks + x.blocks) level w t (new_value c level) low m new,
                   )),
@@ -448,7 +455,7 @@ module _ (R : Room) where
   update-part of operator (AtLocal k) a (l, at, e) can h = assigned-local of k l at e
       (binary_part c (result_type of) operator (local_part c of k) a) (result-becomes of)
       (binary-part R (result_type of) operator (local_part c of k) a
-      (subst (λ (s : ValueType). BinaryGives operator s a.of (result_type of)) (sym (local-type c of k))
+      (subst (λ (s : ValueType). LinesGive operator s a.of (result_type of)) (sym (local-type c of k))
       (update-gives operator of a.of can)) (local-part R of k l at e) h)
   update-part of operator (AtObject o) a (t, e) can h =
       subst (λ (s : ValueType). FitsPart R (update_part c s operator (AtObject o) a)) e
@@ -547,12 +554,14 @@ module _ (R : Room) where
         let new = temp R (suc level) ForOld next in
         let n = temp R (suc level) ForNumber next in
         let x = temporary c (suc level) ForNumber in
+        let within = step_type operator (Integer t) in
         fit-then R (to.lines true block level) _ (h.fits true block level (omega (arith, room)) more) (
           ((old, (at.0, (at.1, tt))), tt),
           (
             (((Two, n), tt), small 1 (omega arith)),
-            fit-then R (computing c level (step_op operator) (new_value c level) (old_value c level) x) _
-                (computing-fit R level (step_op operator) (new_value c level) (old_value c level) x low new old n) (
+            fit-then R (computing c level within (step_op operator) (new_value c level) (old_value c level) x) _
+                (computing-fit R level within (step_op operator) (new_value c level) (old_value c level) x low new old
+                n) (
                   ((at.0, (at.1, (new, tt))), tt),
                   step-value-fit operator (block + to.blocks) level w t low next more m,
                 ),
@@ -575,6 +584,7 @@ module _ (R : Room) where
       own-none (Integer Char) k = refl
       own-none (Integer Short) k = refl
       own-none (Integer Int) k = refl
+      own-none (Integer UnsignedInt) k = refl
       own-none (Pointer t) k = refl
   step-part of operator (AtObject o) scalar (t, e) =
       subst (λ (s : ValueType). FitsPart R (step_part c s operator (AtObject o))) e

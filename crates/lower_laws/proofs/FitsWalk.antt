@@ -13,7 +13,7 @@ use Rattle.c_tree.specs.declared.expression.BinaryOp.TheVariants.{Add}
 use Rattle.c_tree.specs.declared.expression.UnaryOp.{UnaryOp}
 use Rattle.c_tree.specs.declared.expression.UnaryOp.TheVariants.{Plus, Minus, Complement, Not}
 use Rattle.c_tree.specs.declared.types.IntegerType.{IntegerType}
-use Rattle.c_tree.specs.declared.types.IntegerType.TheVariants.{Char, Short, Int}
+use Rattle.c_tree.specs.declared.types.IntegerType.TheVariants.{Char, Short, Int, UnsignedInt}
 use Rattle.c_tree.specs.declared.types.ValueType.{ValueType}
 use Rattle.c_tree.specs.declared.types.ValueType.TheVariants.{Void, Integer, Pointer}
 use Rattle.c_tree.specs.Program.{value_type, Expression, Constant, Start as StartOf, Read, Address, Unary, Binary, And}
@@ -35,7 +35,7 @@ use Rattle.lower_laws.proofs.FitsParts.{unary-part}
 use Rattle.lower_laws.proofs.FitsCompound.{Becomes, and-part', assign-becomes, binary-part, cast-becomes}
 use Rattle.lower_laws.proofs.FitsCompound.{cast-part', comma-part', conditional-becomes, conditional-part'}
 use Rattle.lower_laws.proofs.FitsCompound.{or-part'}
-use Rattle.lower_laws.proofs.Pieces.{context_in}
+use Rattle.lower_laws.proofs.Pieces.{context_in, lines-give}
 use Rattle.lower_laws.proofs.FitsPlaces.{PlaceFits, address-part, assign-part, call-part, element-address}
 use Rattle.lower_laws.proofs.FitsPlaces.{exit-part, getchar-part, passed-part, read-part, step-part, target-address}
 use Rattle.lower_laws.proofs.FitsPlaces.{update-part}
@@ -55,6 +55,7 @@ pub converted-fits : (t : IntegerType) (n : ℤ) → FitsSigned w32 n → FitsSi
 converted-fits Char n h = byte-fits (int_wrap w8 n) (SFits-int_wrap w8 n)
 converted-fits Short n h = short-fits (int_wrap w16 n) (SFits-int_wrap w16 n)
 converted-fits Int n h = h
+converted-fits UnsignedInt n h = h
 
 -- ---- types
 
@@ -119,7 +120,8 @@ module _ (R : Room) (functions : AllByRecursion (IsTypedFunction R.program) R.pr
         (subst (λ (s : ValueType). UnaryFits R operator s) (sym (type-of e h.0))
         (unary-number R operator (value_type e) of h.1)) (expression-fits e h.0 words)
     expression-fits (Binary of operator a b) h words =
-        binary-part R of operator (part_of c a) (part_of c b) (gives-parts operator a b of h.0 h.1 h.2)
+        binary-part R of operator (part_of c a) (part_of c b)
+        (lines-give operator _ _ of (gives-parts operator a b of h.0 h.1 h.2))
         (expression-fits a h.0 words.0) (expression-fits b h.1 words.1)
     expression-fits (And a b) h words =
         and-part' R (part_of c a) (part_of c b) (expression-fits a h.0 words.0) (expression-fits b h.2 words.1)

@@ -8,7 +8,7 @@ use Rattle.std.specs.List.{AllByRecursion}
 use Rattle.std.proofs.lemmas.List.Elements.{recursion_from_All}
 use Rattle.c_tree.specs.declared.statement.Label.{Label}
 use Rattle.c_tree.specs.declared.types.IntegerType.{IntegerType}
-use Rattle.c_tree.specs.declared.types.IntegerType.TheVariants.{Char, Short, Int}
+use Rattle.c_tree.specs.declared.types.IntegerType.TheVariants.{Char, Short, Int, UnsignedInt}
 use Rattle.c_tree.specs.declared.types.ValueType.{ValueType}
 use Rattle.c_tree.specs.declared.types.ValueType.TheVariants.{Void, Integer, Pointer}
 use Rattle.c_tree.specs.Program.{Expression, Statement, Declare, Empty, Evaluate, Block, If, While, Do, For, Switch}
@@ -70,6 +70,7 @@ module _ (R : Room) (functions : AllByRecursion (IsTypedFunction R.program) R.pr
   integer-in Char a h = (Char, refl)
   integer-in Short a h = (Short, refl)
   integer-in Int a h = integer-of a.of h
+  integer-in UnsignedInt a h = integer-of a.of h
 
   returned-in : (result : ValueType) → IsResult result → (e : Expression) → CanReturn p f result (Some e) → HasWords e
       → (block : ℕ) → (part_of c e).levels ≤ L
@@ -189,6 +190,8 @@ module _ (R : Room) (functions : AllByRecursion (IsTypedFunction R.program) R.pr
       (((y, tt), omega (arith, few)), (((local-holds R k l (Integer Short) at e tt, (y, tt)), tt), tt))
   parameter-fit k word l at (Integer Int) e few =
       (((local-holds R k l (Integer Int) at e tt, tt), omega (arith, few)), tt)
+  parameter-fit k word l at (Integer UnsignedInt) e few =
+      (((local-holds R k l (Integer UnsignedInt) at e tt, tt), omega (arith, few)), tt)
   parameter-fit k word l at (Pointer t) e few =
       let h = local-holds R k l (Pointer t) at e tt in
       (((h.0, tt), omega (arith, few)), (((h.1, tt), omega (arith, few)), tt))

@@ -13,6 +13,7 @@ use Rattle.c_eval_laws.proofs.Agreeing.{trees_keep}
 use Rattle.c_eval_laws.specs.Bounds.{state_of}
 use Rattle.c_tree.specs.declared.expression.BinaryOp.TheVariants.{Add}
 use Rattle.c_tree.specs.declared.types.IntegerType.{IntegerType}
+use Rattle.c_tree.specs.declared.types.IntegerType.TheVariants.{Int}
 use Rattle.c_tree.specs.declared.types.ValueType.{ValueType}
 use Rattle.c_tree.specs.declared.types.ValueType.TheVariants.{Integer, Pointer}
 use Rattle.c_tree.specs.Evaluation as evaluation
@@ -278,7 +279,7 @@ two-spots S a run t (Some p) from lowers of level = inr (local-spots S a run t p
 
 -- what is made of the pointer and the number
 abbrev moving : Held → Held → source.State → Evaluated Found
-moving p v z = and_then (computed (binary_value Add p v) z) (λ q w. Gives (evaluation.target_of q) w)
+moving p v z = and_then (computed (binary_value Int Add p v) z) (λ q w. Gives (evaluation.target_of q) w)
 
 module _ (S : Site) (site : IsSite S) (t : IntegerType) (a b : Part) (run run' : source.State → Evaluated Held)
     (la : Lowers S a run) (of : a.of ≡ Pointer t) (u : IntegerType) (lb : Lowers S b run') (of' : b.of ≡ Integer u)

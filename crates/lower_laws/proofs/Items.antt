@@ -4,7 +4,7 @@ use Rattle.std.proofs.Common.{None, inl, inr, refl, arith, length-append}
 use Rattle.std.specs.Prelude.{if◌then◌else◌}
 use Rattle.std.specs.List.{AllByRecursion}
 use Rattle.c_tree.specs.declared.types.IntegerType.{IntegerType}
-use Rattle.c_tree.specs.declared.types.IntegerType.TheVariants.{Char, Short, Int}
+use Rattle.c_tree.specs.declared.types.IntegerType.TheVariants.{Char, Short, Int, UnsignedInt}
 use Rattle.c_tree.specs.declared.types.ValueType.{ValueType}
 use Rattle.c_tree.specs.declared.types.ValueType.TheVariants.{Void, Integer, Pointer}
 use Rattle.c_tree.specs.Evaluation.{type_at}
@@ -95,6 +95,7 @@ module _ (c : Context) (D : List ℕ) (low-known : (v : ℕ) → IsIn v D → v 
   initial-settled Void k a turns h low block = wide-initial Void k a turns h low block
   initial-settled (Integer Short) k a turns h low block = wide-initial (Integer Short) k a turns h low block
   initial-settled (Integer Int) k a turns h low block = wide-initial (Integer Int) k a turns h low block
+  initial-settled (Integer UnsignedInt) k a turns h low block = wide-initial (Integer UnsignedInt) k a turns h low block
   initial-settled (Pointer t) k a turns h low block = wide-initial (Pointer t) k a turns h low block
 
   -- a number or a string reads no local

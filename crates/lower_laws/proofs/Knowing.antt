@@ -7,6 +7,7 @@ use Rattle.std.proofs.lemmas.List.Elements.{All-append, All-cons, All-nil}
 use Rattle.pcc_base.specs.Outcome.{End, AreKnown, ArrayName, IsKnown, Listing, Part, Scalar, ArrayOf, IndexOf, Value}
 use Rattle.pcc_base.specs.Outcome.{Visit, Null, Static, InFrame, Unknown, Array}
 use Rattle.c_tree.specs.declared.expression.BinaryOp.{BinaryOp}
+use Rattle.c_tree.specs.declared.types.IntegerType.{IntegerType}
 use Rattle.c_tree.specs.declared.types.ValueType.{ValueType}
 use Rattle.c_tree.specs.declared.types.ValueType.TheVariants.{Void, Integer, Pointer}
 use Rattle.c_tree.specs.Evaluation.{Found, InLocal, InObject, AtIndex, Left, Falls, Breaks, Continues, Returns, Runs}
@@ -209,11 +210,12 @@ pub computed-knows : {calls : List (List Local)} {K : Held → Type 0} (c : Comp
     → Knows calls K (computed c)
 computed-knows {calls} {K} c h = record { from = λ s k. computed-comes calls K c s h k }
 
-pub updated-knows : (locals : List Local) (older : List (List Local)) (of : ValueType) (op : BinaryOp) (found : Found)
-    (old value : Held) → IsFound locals of found → IsSafe old → IsSafe value
-    → Knows (locals ∷ older) (HasKind of) (updated of op found old value)
-updated-knows locals older of op found old value is h h' =
-    then-knows (computed-knows {K = IsSafe} (binary_value op old value) (binary-safe op old value h h')) (λ new safe.
+pub updated-knows : (locals : List Local) (older : List (List Local)) (of : ValueType) (within : IntegerType)
+    (op : BinaryOp) (found : Found) (old value : Held) → IsFound locals of found → IsSafe old → IsSafe value
+    → Knows (locals ∷ older) (HasKind of) (updated of within op found old value)
+updated-knows locals older of within op found old value is h h' =
+    then-knows (computed-knows {K = IsSafe} (binary_value within op old value)
+    (binary-safe within op old value h h')) (λ new safe.
     store-knows locals older of found (in_type of new) is (in-kind of new safe))
 
 pub put-knows : {calls : List (List Local)} (of : ValueType) (v : Held) → IsInteger of

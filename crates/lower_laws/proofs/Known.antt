@@ -25,6 +25,7 @@ use Rattle.lower_lines.specs.Expressions.{parts_of, place_of, target_of, words_o
 use Rattle.lower_lines.specs.Parts.{Part}
 use Rattle.lower_lines.specs.Variables.{Context, local_spot, local_variables}
 use Rattle.lower_lines.proofs.Types.{part-type, place-scalar, some-and}
+use Rattle.lower_laws.proofs.Pieces.{lines-give}
 use Rattle.lower_laws.proofs.FitsCompound.{Becomes, assign-becomes, cast-becomes, conditional-becomes}
 use Rattle.lower_laws.specs.Flows.{Within}
 use Rattle.lower_laws.specs.Settled.{context_in}
@@ -137,11 +138,12 @@ module _ (p : Program) (f : Function) (functions : AllByRecursion (IsTypedFuncti
         named-live (Read of place) h k = read-part c D low of (place_of c place) (place-live place of h k)
         named-live (Address element place) h k = address-live element place h.0 h.1 k
         named-live (Unary of operator e) h k =
-            unary-part c D low operator (part_of c e)
+            unary-part c D low of operator (part_of c e)
             (subst (λ (s : ValueType). UnaryFits c D low operator s) (sym (part-type p f e h.0))
             (unary-number operator (value_type e) of h.1)) (named-live e h.0 k)
         named-live (Binary of operator a b) h k =
-            binary-part c D low of operator (part_of c a) (part_of c b) (gives-parts operator a b of h.0 h.1 h.2)
+            binary-part c D low of operator (part_of c a) (part_of c b)
+            (lines-give operator _ _ of (gives-parts operator a b of h.0 h.1 h.2))
             (named-live a h.0 k.0) (named-live b h.1 k.1)
         named-live (And a b) h k =
             and-part c D low (part_of c a) (part_of c b) (named-live a h.0 k.0) (named-live b h.2 k.1)

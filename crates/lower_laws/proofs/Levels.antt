@@ -8,7 +8,7 @@ use Rattle.c_tree.specs.declared.expression.StepOp.TheVariants.{PostDecrement}
 use Rattle.c_tree.specs.declared.expression.UnaryOp.{UnaryOp}
 use Rattle.c_tree.specs.declared.expression.UnaryOp.TheVariants.{Plus, Minus, Complement, Not}
 use Rattle.c_tree.specs.declared.types.IntegerType.{IntegerType}
-use Rattle.c_tree.specs.declared.types.IntegerType.TheVariants.{Char, Short, Int}
+use Rattle.c_tree.specs.declared.types.IntegerType.TheVariants.{Char, Short, Int, UnsignedInt}
 use Rattle.c_tree.specs.declared.types.ValueType.{ValueType}
 use Rattle.c_tree.specs.declared.types.ValueType.TheVariants.{Void, Integer, Pointer}
 use Rattle.c_tree.specs.Operators.{step_op}
@@ -61,6 +61,7 @@ in_type-one c Void a h = h
 in_type-one c (Integer Char) a h = h
 in_type-one c (Integer Short) a h = h
 in_type-one c (Integer Int) a h = h
+in_type-one c (Integer UnsignedInt) a h = h
 in_type-one c (Pointer t) a h = pointer-one c t a.of a h
 
 local-one : (c : Context) (of : ValueType) (k : ℕ) → 1 ≤ (local_part c of k).levels
@@ -68,6 +69,7 @@ local-one c Void k = omega arith
 local-one c (Integer Char) k = omega arith
 local-one c (Integer Short) k = omega arith
 local-one c (Integer Int) k = omega arith
+local-one c (Integer UnsignedInt) k = omega arith
 local-one c (Pointer t) k = omega arith
 
 read-one : (c : Context) (of : ValueType) (l : Located) → LevelsOf l → 1 ≤ (read_part c of l).levels
@@ -84,11 +86,12 @@ address-one c t (AtLocal k) h = local-one c (Pointer t) k
 address-one c t (AtObject k) h = omega arith
 address-one c t (AtAddress u a) h = h.1
 
-unary-one : (c : Context) (op : UnaryOp) (a : Part) → 1 ≤ a.levels → 1 ≤ (unary_part c op a).levels
-unary-one c Plus a h = h
-unary-one c Minus a h = h
-unary-one c Complement a h = h
-unary-one c Not a h = h
+unary-one : (c : Context) (of : IntegerType) (op : UnaryOp) (a : Part) → 1 ≤ a.levels
+    → 1 ≤ (unary_part c of op a).levels
+unary-one c of Plus a h = h
+unary-one c of Minus a h = h
+unary-one c of Complement a h = h
+unary-one c of Not a h = h
 
 assigned-one : (c : Context) (of : ValueType) (k : ℕ) (a : Part) → 1 ≤ a.levels
     → 1 ≤ (assign_part c of (AtLocal k) a).levels
@@ -96,6 +99,7 @@ assigned-one c Void k a h = h
 assigned-one c (Integer Char) k a h = h
 assigned-one c (Integer Short) k a h = h
 assigned-one c (Integer Int) k a h = h
+assigned-one c (Integer UnsignedInt) k a h = h
 assigned-one c (Pointer t) k a h = pointer-one c t a.of a h
 
 assign-one : (c : Context) (of : ValueType) (l : Located) (a : Part) → LevelsOf l → 1 ≤ a.levels
@@ -142,7 +146,7 @@ mutual
   levels-one c (StartOf t array) = omega arith
   levels-one c (Read of place) = read-one c of (place_of c place) (located-one c place)
   levels-one c (Address t place) = address-one c t (place_of c place) (located-one c place)
-  levels-one c (Unary of op e) = unary-one c op (part_of c e) (levels-one c e)
+  levels-one c (Unary of op e) = unary-one c of op (part_of c e) (levels-one c e)
   levels-one c (Binary of op a b) = max-behind (part_of c a).levels (part_of c b).levels
   levels-one c (And a b) = max-first (part_of c a).levels (part_of c b).levels (levels-one c a)
   levels-one c (Or a b) = max-first (part_of c a).levels (part_of c b).levels (levels-one c a)

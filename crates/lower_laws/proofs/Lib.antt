@@ -60,6 +60,7 @@ pub mod Made
 pub mod Atoms
 pub mod Operands
 pub mod Levels
+pub mod Retyped
 pub mod Unary
 pub mod Reading
 pub mod Pairs

@@ -6,7 +6,7 @@ use Rattle.std.specs.List.{AllByRecursion}
 use Rattle.std.proofs.lemmas.List.Elements.{recursion_from_All}
 use Rattle.c_tree.specs.declared.statement.Label.{Label}
 use Rattle.c_tree.specs.declared.types.IntegerType.{IntegerType}
-use Rattle.c_tree.specs.declared.types.IntegerType.TheVariants.{Char, Short, Int}
+use Rattle.c_tree.specs.declared.types.IntegerType.TheVariants.{Char, Short, Int, UnsignedInt}
 use Rattle.c_tree.specs.declared.types.ValueType.{ValueType}
 use Rattle.c_tree.specs.declared.types.ValueType.TheVariants.{Void, Integer, Pointer}
 use Rattle.c_tree.specs.Evaluation.{type_at, type_of}
@@ -127,6 +127,7 @@ module _ (p : Program) (f : Function) (functions : AllByRecursion (IsTypedFuncti
     integer-in Char a h = (Char, refl)
     integer-in Short a h = (Short, refl)
     integer-in Int a h = integer-of a.of h
+    integer-in UnsignedInt a h = integer-of a.of h
 
     number-returned : (result : ValueType) → IsResult result → (e : Expression) → CanReturn p f result (Some e)
         → NamesOnly known e → (n : ℕ) (exits : Exits) (block : ℕ)

@@ -13,7 +13,7 @@ use Rattle.c_tree.specs.declared.expression.BinaryOp.TheVariants.{Add}
 use Rattle.c_tree.specs.declared.expression.UnaryOp.{UnaryOp}
 use Rattle.c_tree.specs.declared.expression.UnaryOp.TheVariants.{Plus, Minus, Complement, Not}
 use Rattle.c_tree.specs.declared.types.IntegerType.{IntegerType}
-use Rattle.c_tree.specs.declared.types.IntegerType.TheVariants.{Char, Short, Int}
+use Rattle.c_tree.specs.declared.types.IntegerType.TheVariants.{Char, Short, Int, UnsignedInt}
 use Rattle.c_tree.specs.declared.types.ValueType.{ValueType}
 use Rattle.c_tree.specs.declared.types.ValueType.TheVariants.{Void, Integer, Pointer}
 use Rattle.c_tree.specs.Evaluation.{type_of}
@@ -31,6 +31,7 @@ use Rattle.lower_lines.specs.Parts.{Part}
 use Rattle.lower_lines.specs.Shown.{first_variable, local_widths, type_widths}
 use Rattle.lower_lines.specs.Variables.{Context, Spot, local_spot, local_variables, typed_spot}
 use Rattle.lower_lines.proofs.Types.{part-type, place-scalar, some-and}
+use Rattle.lower_laws.proofs.Pieces.{lines-give}
 use Rattle.lower_laws.proofs.Widths.{local-width}
 use Rattle.lower_laws.proofs.FitsCompound.{Becomes, assign-becomes, cast-becomes, conditional-becomes}
 use Rattle.lower_laws.specs.Flows.{Within}
@@ -102,6 +103,8 @@ module _ (p : Program) (f : Function) (functions : AllByRecursion (IsTypedFuncti
       (first-known k l Two at (ap (λ (m : ValueType). slice_get (type_widths m) 0) e))
   words-known (Integer Int) k l at e = one-known (first_variable f.locals k)
       (first-known k l Two at (ap (λ (m : ValueType). slice_get (type_widths m) 0) e))
+  words-known (Integer UnsignedInt) k l at e = one-known (first_variable f.locals k)
+      (first-known k l Two at (ap (λ (m : ValueType). slice_get (type_widths m) 0) e))
   words-known (Pointer t) k l at e = both
     where
       both : (v : ℕ) → IsIn v (first_variable f.locals k ∷ suc (first_variable f.locals k) ∷ []) → IsIn v D
@@ -163,11 +166,12 @@ module _ (p : Program) (f : Function) (functions : AllByRecursion (IsTypedFuncti
     expression-live (Read of place) h = read-part c D low-known of (place_of c place) (place-live place of h)
     expression-live (Address element place) h = address-live element place h.0 h.1
     expression-live (Unary of operator e) h =
-        unary-part c D low-known operator (part_of c e)
+        unary-part c D low-known of operator (part_of c e)
         (subst (λ (s : ValueType). UnaryFits c D low-known operator s) (sym (type-of e h.0))
         (unary-number operator (value_type e) of h.1)) (expression-live e h.0)
     expression-live (Binary of operator a b) h =
-        binary-part c D low-known of operator (part_of c a) (part_of c b) (gives-parts operator a b of h.0 h.1 h.2)
+        binary-part c D low-known of operator (part_of c a) (part_of c b)
+        (lines-give operator _ _ of (gives-parts operator a b of h.0 h.1 h.2))
         (expression-live a h.0) (expression-live b h.1)
     expression-live (And a b) h =
         and-part c D low-known (part_of c a) (part_of c b) (expression-live a h.0) (expression-live b h.2)

@@ -10,7 +10,7 @@ use Rattle.pcc_base.specs.Outcome.{Number, Visit}
 use Rattle.pcc_base.specs.declared.run.Width.{Width}
 use Rattle.pcc_base.specs.declared.run.Width.TheVariants.{Two}
 use Rattle.c_tree.specs.declared.types.IntegerType.{IntegerType}
-use Rattle.c_tree.specs.declared.types.IntegerType.TheVariants.{Char, Short, Int}
+use Rattle.c_tree.specs.declared.types.IntegerType.TheVariants.{Char, Short, Int, UnsignedInt}
 use Rattle.c_tree.specs.declared.types.ValueType.{ValueType}
 use Rattle.c_tree.specs.declared.types.ValueType.TheVariants.{Void, Integer, Pointer}
 use Rattle.c_tree.specs.Evaluation.{type_of}
@@ -68,6 +68,7 @@ wide-local t Void h = absurd h
 wide-local t (Integer Char) h = absurd h
 wide-local t (Integer Short) h = (Short, refl, refl)
 wide-local t (Integer Int) h = (Int, refl, refl)
+wide-local t (Integer UnsignedInt) h = (UnsignedInt, refl, refl)
 wide-local t (Pointer u) h = absurd h
 
 -- a block that is started has a line that starts it

@@ -6,8 +6,8 @@ use Rattle.c_tree.specs.declared.expression.BinaryOp.TheVariants.{Equal, NotEqua
 use Rattle.c_tree.specs.declared.types.IntegerType.{IntegerType}
 use Rattle.c_tree.specs.declared.types.ValueType.TheVariants.{Integer, Pointer}
 use Rattle.c_tree.specs.Evaluation.{computed, evaluate}
-use Rattle.c_tree.specs.Operators.{is_true, pointer_number_value, same_pointer}
-use Rattle.c_tree.specs.Program.{Function, int}
+use Rattle.c_tree.specs.Operators.{is_true, pointer_number_value, same_pointer, working_type}
+use Rattle.c_tree.specs.Program.{Function, int, value_type}
 use Rattle.c_tree.specs.Store as source
 use Rattle.c_tree.specs.Store.{Gives, HoldsNumber, HoldsPointer}
 use Rattle.flow_graph.specs.States as graph
@@ -70,34 +70,34 @@ module _ (S : Site) (site : IsSite S) (older : List Function) (level other : ℕ
 
 nulls-apply : (S : Site) (site : IsSite S) (operator : BinaryOp) (t u : IntegerType) → ComparesNull operator
     → Applies S int operator (Pointer t) (Integer u)
-nulls-apply S site operator t u compares older block level wanted before x y (HoldsPointer array index) (HoldsNumber m)
+nulls-apply S site operator t u compares within older block level wanted before x y (HoldsPointer array index) (HoldsNumber m)
     z i stands room may b px py holds holds' is is' =
     null-fits S site older level level before z i room b t array index x holds px operator compares y.number m block
     wanted stands may
-nulls-apply S site operator t u compares older block level wanted before x y (HoldsNumber n) v z i stands room may b px
+nulls-apply S site operator t u compares within older block level wanted before x y (HoldsNumber n) v z i stands room may b px
     py holds holds' is is' = absurd is
-nulls-apply S site operator t u compares older block level wanted before x y (HoldsPointer array index)
+nulls-apply S site operator t u compares within older block level wanted before x y (HoldsPointer array index)
     (HoldsPointer other j) z i stands room may b px py holds holds' is is' = absurd is'
 
 turned-apply : (S : Site) (site : IsSite S) (operator : BinaryOp) (t u : IntegerType) → ComparesNull operator
     → Applies S int operator (Integer u) (Pointer t)
-turned-apply S site operator t u compares older block level wanted before x y (HoldsNumber m) (HoldsPointer array index)
+turned-apply S site operator t u compares within older block level wanted before x y (HoldsNumber m) (HoldsPointer array index)
     z i stands room may b px py holds holds' is is' =
     null-fits S site older level (suc level) before z i room b t array index y holds' py operator compares x.number m
     block wanted stands may
-turned-apply S site operator t u compares older block level wanted before x y (HoldsPointer array index) v z i stands
+turned-apply S site operator t u compares within older block level wanted before x y (HoldsPointer array index) v z i stands
     room may b px py holds holds' is is' = absurd is
-turned-apply S site operator t u compares older block level wanted before x y (HoldsNumber m) (HoldsNumber n) z i stands
+turned-apply S site operator t u compares within older block level wanted before x y (HoldsNumber m) (HoldsNumber n) z i stands
     room may b px py holds holds' is is' = absurd is'
 
 pub nulls-compared : NullsAreCompared
 nulls-compared S site operator compares a b t u la of lb of' =
-    operator-lowers S int operator (part_of (context_of S) a) (part_of (context_of S) b) (evaluate S.calls a)
+    operator-lowers S int (working_type operator (value_type a) (value_type b)) operator (part_of (context_of S) a) (part_of (context_of S) b) (evaluate S.calls a)
     (evaluate S.calls b) (Pointer t) (Integer u) la of lb of' (pointer-not-void t) (integer-not-void u)
     (turns-fall S site a) (turns-fall S site b) (nulls-apply S site operator t u compares)
 
 pub turned-compared : TurnedNullsAreCompared
 turned-compared S site operator compares a b t u la of lb of' =
-    operator-lowers S int operator (part_of (context_of S) a) (part_of (context_of S) b) (evaluate S.calls a)
+    operator-lowers S int (working_type operator (value_type a) (value_type b)) operator (part_of (context_of S) a) (part_of (context_of S) b) (evaluate S.calls a)
     (evaluate S.calls b) (Integer u) (Pointer t) la of lb of' (integer-not-void u) (pointer-not-void t)
     (turns-fall S site a) (turns-fall S site b) (turned-apply S site operator t u compares)

@@ -8,11 +8,12 @@ use Rattle.c_tree.specs.declared.expression.BinaryOp.{BinaryOp}
 use Rattle.c_tree.specs.declared.expression.BinaryOp.TheVariants.{Subtract, Less, Greater, LessOrEqual}
 use Rattle.c_tree.specs.declared.expression.BinaryOp.TheVariants.{GreaterOrEqual, Equal, NotEqual}
 use Rattle.c_tree.specs.declared.types.IntegerType.{IntegerType}
+use Rattle.c_tree.specs.declared.types.IntegerType.TheVariants.{Int}
 use Rattle.c_tree.specs.declared.types.ValueType.TheVariants.{Pointer}
 use Rattle.c_tree.specs.Evaluation.{computed, evaluate}
 use Rattle.c_tree.specs.Operators.{Computed, Traps, in_one_array, numbers_value, pointers_value, same_array}
-use Rattle.c_tree.specs.Operators.{same_pointer}
-use Rattle.c_tree.specs.Program.{Function, int}
+use Rattle.c_tree.specs.Operators.{same_pointer, working_type}
+use Rattle.c_tree.specs.Program.{Function, int, value_type}
 use Rattle.c_tree.specs.Store as source
 use Rattle.c_tree.specs.Store.{HoldsNumber, HoldsPointer}
 use Rattle.c_tree.specs.WellTyped.{TakesPointers}
@@ -50,7 +51,7 @@ index-placed S level t x (inr (k, l, e, of, is)) =
 -- the lines of these operators
 abbrev in_one : Context → ℕ → ℕ → Wanted → BinaryOp → Spot → Spot → List Line
 in_one c block level wanted operator x y = Emit (op.Same x.array y.array)
-    ∷ on_numbers c block level wanted operator x.number y.number
+    ∷ on_numbers c block level wanted Int operator x.number y.number
 
 module _ (S : Site) (site : IsSite S) (older : List Function) (block level : ℕ) (wanted : Wanted) (before : List Line)
     (operator : BinaryOp) (s : source.State) (g : graph.State) (room : level < levels_of S.function)
@@ -58,27 +59,27 @@ module _ (S : Site) (site : IsSite S) (older : List Function) (block level : ℕ
     (index index' : ℤ) (x y : Spot) (px : Placed S level (Pointer t) x) (py : Placed S (suc level) (Pointer u) y)
     (holds : HoldsAt g.current.variables (Pointer t) x (HoldsPointer array index))
     (holds' : HoldsAt g.current.variables (Pointer u) y (HoldsPointer array' index'))
-    (typed : GivesOf S.program (S.function ∷ older) int (computed (numbers_value operator index index') s)) where
+    (typed : GivesOf S.program (S.function ∷ older) int (computed (numbers_value Int operator index index') s)) where
   abbrev test : Line
   test = Emit (op.Same x.array y.array)
 
   abbrev rest : List Line
-  rest = on_numbers (context_of S) block level wanted operator x.number y.number
+  rest = on_numbers (context_of S) block level wanted Int operator x.number y.number
 
   order-by : (same : Bool) → same_array array array' ≡ same
       → Stand S before (in_one (context_of S) block level wanted operator x y)
       → Fits S (S.function ∷ older) before (in_one (context_of S) block level wanted operator x y) level wanted int s g
-      (computed (if same then numbers_value operator index index' else Traps Check) s)
+      (computed (if same then numbers_value Int operator index index' else Traps Check) s)
   order-by true e stands = (
     follows-behind S (S.function ∷ older) before (test ∷ []) rest level wanted int s s g g []
-        (computed (numbers_value operator index index') s) (kept-none (local_variables S.function) level g)
+        (computed (numbers_value Int operator index index') s) (kept-none (local_variables S.function) level g)
         (sym (append-nil s.visits))
         (λ o r. same-step S site before g b.function x.array y.array s.turns o
         (stand-front S before (test ∷ []) rest stands)
         (arrays-are g x.array y.array array array' holds.0 holds'.0 ∙ ap Some e) r)
         (numbers-follow S site older level x.number y.number index index' (before ++ test ∷ []) s g b.function b.shows
         room (ap number_of holds.1) (ap number_of holds'.1) (index-placed S level t x px)
-        (index-placed S (suc level) u y py) operator block wanted (stand-back S before (test ∷ []) rest stands) may),
+        (index-placed S (suc level) u y py) Int operator block wanted (stand-back S before (test ∷ []) rest stands) may),
     typed,
   )
   order-by false e stands = (
@@ -92,42 +93,42 @@ module _ (S : Site) (site : IsSite S) (older : List Function) (block level : ℕ
 order-applies : (S : Site) (site : IsSite S) (operator : BinaryOp) (t u : IntegerType)
     → ((block level : ℕ) (wanted : Wanted) (x y : Spot) → on_pointers (context_of S) block level wanted operator x y
     ≡ in_one (context_of S) block level wanted operator x y)
-    → ((a b : ArrayName) (i j : ℤ) → pointers_value operator a i b j ≡ in_one_array a b (numbers_value operator i j))
+    → ((a b : ArrayName) (i j : ℤ) → pointers_value operator a i b j ≡ in_one_array a b (numbers_value Int operator i j))
     → ((active : List Function) (i j : ℤ) (s : source.State)
-    → GivesOf S.program active int (computed (numbers_value operator i j) s))
+    → GivesOf S.program active int (computed (numbers_value Int operator i j) s))
     → Applies S int operator (Pointer t) (Pointer u)
-order-applies S site operator t u lines value typed older block level wanted before x y (HoldsPointer array index)
+order-applies S site operator t u lines value typed within older block level wanted before x y (HoldsPointer array index)
     (HoldsPointer array' index') z i stands room may b px py holds holds' is is' =
     subst (λ (c : Computed). Fits S (S.function ∷ older) before
     (on_pointers (context_of S) block level wanted operator x y) level wanted int z i (computed c z))
     (sym (value array array' index index'))
     (subst (λ (ls : List Line). Fits S (S.function ∷ older) before ls level wanted int z i
-    (computed (in_one_array array array' (numbers_value operator index index')) z))
+    (computed (in_one_array array array' (numbers_value Int operator index index')) z))
     (sym (lines block level wanted x y))
     (order-by S site older block level wanted before operator z i room may b t u array array' index index' x y px py
     holds holds' (typed (S.function ∷ older) index index' z) (same_array array array') refl
     (subst (λ (ls : List Line). Stand S before ls) (lines block level wanted x y) stands)))
-order-applies S site operator t u lines value typed older block level wanted before x y (HoldsNumber n) v z i stands
+order-applies S site operator t u lines value typed within older block level wanted before x y (HoldsNumber n) v z i stands
     room may b px py holds holds' is is' = absurd is
-order-applies S site operator t u lines value typed older block level wanted before x y (HoldsPointer array index)
+order-applies S site operator t u lines value typed within older block level wanted before x y (HoldsPointer array index)
     (HoldsNumber n) z i stands room may b px py holds holds' is is' = absurd is'
 
 -- ---- whether they are the same
 
 equal-applies : (S : Site) (site : IsSite S) (t u : IntegerType) → Applies S int Equal (Pointer t) (Pointer u)
-equal-applies S site t u older block level wanted before x y (HoldsPointer array index) (HoldsPointer array' index') z i
+equal-applies S site t u within older block level wanted before x y (HoldsPointer array index) (HoldsPointer array' index') z i
     stands room may b px py holds holds' is is' =
     chosen-fits S site older level (λ block holds fails. equality_test block x y holds fails) before z i
     (same_pointer array index array' index') room b
     (equality-tests S site older level before z i b t u array array' index index' x y holds holds') block wanted stands
     may
-equal-applies S site t u older block level wanted before x y (HoldsNumber n) v z i stands room may b px py holds holds'
+equal-applies S site t u within older block level wanted before x y (HoldsNumber n) v z i stands room may b px py holds holds'
     is is' = absurd is
-equal-applies S site t u older block level wanted before x y (HoldsPointer array index) (HoldsNumber n) z i stands room
+equal-applies S site t u within older block level wanted before x y (HoldsPointer array index) (HoldsNumber n) z i stands room
     may b px py holds holds' is is' = absurd is'
 
 differ-applies : (S : Site) (site : IsSite S) (t u : IntegerType) → Applies S int NotEqual (Pointer t) (Pointer u)
-differ-applies S site t u older block level wanted before x y (HoldsPointer array index) (HoldsPointer array' index') z
+differ-applies S site t u within older block level wanted before x y (HoldsPointer array index) (HoldsPointer array' index') z
     i stands room may b px py holds holds' is is' =
     chosen-fits S site older level (λ block holds fails. equality_test block x y fails holds) before z i
     (not (same_pointer array index array' index')) room b
@@ -135,9 +136,9 @@ differ-applies S site t u older block level wanted before x y (HoldsPointer arra
     (same_pointer array index array' index')
     (equality-tests S site older level before z i b t u array array' index index' x y holds holds')) block wanted stands
     may
-differ-applies S site t u older block level wanted before x y (HoldsNumber n) v z i stands room may b px py holds holds'
+differ-applies S site t u within older block level wanted before x y (HoldsNumber n) v z i stands room may b px py holds holds'
     is is' = absurd is
-differ-applies S site t u older block level wanted before x y (HoldsPointer array index) (HoldsNumber n) z i stands room
+differ-applies S site t u within older block level wanted before x y (HoldsPointer array index) (HoldsNumber n) z i stands room
     may b px py holds holds' is is' = absurd is'
 
 -- ---- every operator
@@ -160,6 +161,6 @@ compared-apply S site _ t u takes = absurd takes
 
 pub pointers-compared : PointersAreCompared
 pointers-compared S site operator takes a b t u la of lb of' =
-    operator-lowers S int operator (part_of (context_of S) a) (part_of (context_of S) b) (evaluate S.calls a)
+    operator-lowers S int (working_type operator (value_type a) (value_type b)) operator (part_of (context_of S) a) (part_of (context_of S) b) (evaluate S.calls a)
     (evaluate S.calls b) (Pointer t) (Pointer u) la of lb of' (pointer-not-void t) (pointer-not-void u)
     (turns-fall S site a) (turns-fall S site b) (compared-apply S site operator t u takes)

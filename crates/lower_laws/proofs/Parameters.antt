@@ -8,7 +8,7 @@ use Rattle.std.proofs.lemmas.List.Elements.{recursion_from_All}
 use Rattle.pcc_base.specs.Outcome.{ArrayName, Outcome, Value, Number}
 use Rattle.pcc_base.proofs.Lists.{get-seam}
 use Rattle.c_tree.specs.declared.types.IntegerType.{IntegerType}
-use Rattle.c_tree.specs.declared.types.IntegerType.TheVariants.{Char, Short, Int}
+use Rattle.c_tree.specs.declared.types.IntegerType.TheVariants.{Char, Short, Int, UnsignedInt}
 use Rattle.c_tree.specs.declared.types.ValueType.{ValueType}
 use Rattle.c_tree.specs.declared.types.ValueType.TheVariants.{Void, Integer, Pointer}
 use Rattle.c_tree.specs.Evaluation.{type_of}
@@ -112,12 +112,12 @@ module _ (S : Site) (site : IsSite S) (older : List Function) where
     first = first_variable S.function.locals k
 
     -- a number as it is
-    int-taken : (n : ℤ) → l.of ≡ Integer Int → Stand S before (Emit (op.Param first word) ∷ [])
+    number-taken : (t : IntegerType) (n : ℤ) → l.of ≡ Integer t → Stand S before (Emit (op.Param first word) ∷ [])
         → slice_get g.current.arguments word ≡ Some (Number n)
         → Takes S (S.function ∷ older) before (Emit (op.Param first word) ∷ []) (with_local k (HoldsNumber n) s) g
-    int-taken n of stands there = (
+    number-taken t n of stands there = (
       with_value first (Number n) g,
-      numbers-set S.program S.function older s g k l Int n shows at of,
+      numbers-set S.program S.function older s g k l t n shows at of,
       refl,
       refl,
       refl,
@@ -226,7 +226,9 @@ module _ (S : Site) (site : IsSite S) (older : List Function) where
     one-taken (Integer Short) (HoldsNumber n) others more w of scalar is stands e =
         short-taken n of stands (first-word others (Number n) more w e)
     one-taken (Integer Int) (HoldsNumber n) others more w of scalar is stands e =
-        int-taken n of stands (first-word others (Number n) more w e)
+        number-taken Int n of stands (first-word others (Number n) more w e)
+    one-taken (Integer UnsignedInt) (HoldsNumber n) others more w of scalar is stands e =
+        number-taken UnsignedInt n of stands (first-word others (Number n) more w e)
     one-taken (Pointer t) (HoldsPointer array index) others more w of scalar is stands e =
         pointer-taken t array index of is stands (first-word others (array_value array) (Number index ∷ more) w e)
         (next-word others (array_value array) (Number index) more w e)

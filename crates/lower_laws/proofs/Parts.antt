@@ -6,12 +6,11 @@ use Rattle.c_tree.specs.declared.expression.ArrayRef.{ArrayRef}
 use Rattle.c_tree.specs.declared.expression.ArrayRef.TheVariants as refs
 use Rattle.c_tree.specs.declared.expression.BinaryOp.{BinaryOp}
 use Rattle.c_tree.specs.declared.types.IntegerType.{IntegerType}
-use Rattle.c_tree.specs.declared.types.IntegerType.TheVariants.{Char, Short, Int}
+use Rattle.c_tree.specs.declared.types.IntegerType.TheVariants.{Char, Short, Int, UnsignedInt}
 use Rattle.c_tree.specs.declared.types.ValueType.{ValueType}
 use Rattle.c_tree.specs.declared.types.ValueType.TheVariants.{Void, Integer, Pointer}
 use Rattle.c_tree.specs.Program.{int}
 use Rattle.c_tree.specs.Store.{converted}
-use Rattle.c_tree.specs.WellTyped.{BinaryGives}
 use Rattle.flow_graph.specs.declared.op.Op.{Op}
 use Rattle.flow_graph.specs.declared.op.Op.TheVariants as op
 use Rattle.flow_graph.specs.Graphs.{IsIn}
@@ -26,6 +25,7 @@ use Rattle.lower_lines.specs.Parts.{operand, standing, target, tested_blocks}
 use Rattle.lower_lines.specs.Variables.{Context, Spot, local_spot, local_variables, moved, own}
 use Rattle.lower_laws.specs.Flows.{Within}
 use Rattle.lower_laws.proofs.Applied.{AllFree, Free, LowTarget, Settled, applied-settled, none-agrees}
+use Rattle.lower_laws.proofs.Pieces.{LinesGive}
 use Rattle.lower_laws.proofs.Sets.{Agrees, F, Goes, IsSimple, agrees-at, agrees-back, agrees-front}
 use Rattle.lower_laws.proofs.Sets.{both-in, delivered-flows, flows-then, front-in, goes-more, last-less, made-flows}
 use Rattle.lower_laws.proofs.Sets.{more-in, moved-flows, one-in, reached, swapped, tested-size, tested_sets}
@@ -311,6 +311,7 @@ module _ (c : Context) (D : List ℕ) (low-known : (v : ℕ) → IsIn v D → v 
   local-part Void k h = wide-local Void k h
   local-part (Integer Short) k h = wide-local (Integer Short) k h
   local-part (Integer Int) k h = wide-local (Integer Int) k h
+  local-part (Integer UnsignedInt) k h = wide-local (Integer UnsignedInt) k h
   local-part (Pointer t) k h = wide-local (Pointer t) k h
 
   -- ---- operators
@@ -348,7 +349,7 @@ module _ (c : Context) (D : List ℕ) (low-known : (v : ℕ) → IsIn v D → v 
         tests = λ holds fails. refl;
       }
 
-  pub binary-part : (of : ValueType) (operator : BinaryOp) (a b : Part) → BinaryGives operator a.of b.of of → LivePart a
+  pub binary-part : (of : ValueType) (operator : BinaryOp) (a b : Part) → LinesGive operator a.of b.of of → LivePart a
       → LivePart b → LivePart (binary_part c of operator a b)
   binary-part of operator a b gives ha hb =
       let x = operand c b.simple a in

@@ -4,6 +4,7 @@ use Rattle.std.proofs.Common.{Option, Some, None, refl, sym, ap, ◌∙◌, subs
 use Rattle.std.specs.Prelude.{if◌then◌else◌, ◌==◌, FitsSigned, slice_get}
 use Rattle.std.specs.Int.{w32}
 use Rattle.std.specs.List.{AllByRecursion}
+use Rattle.std.proofs.lemmas.Bool.{cond_both}
 use Rattle.std.proofs.lemmas.Option.{slice_get_within}
 use Rattle.pcc_base.specs.declared.run.Width.{Width}
 use Rattle.pcc_base.specs.declared.run.Width.TheVariants.{One, Two}
@@ -14,17 +15,20 @@ use Rattle.c_tree.specs.declared.expression.BinaryOp.TheVariants.{ShiftRight, Le
 use Rattle.c_tree.specs.declared.expression.BinaryOp.TheVariants.{GreaterOrEqual, Equal, NotEqual, BitAnd, BitXor}
 use Rattle.c_tree.specs.declared.expression.BinaryOp.TheVariants.{BitOr}
 use Rattle.c_tree.specs.declared.types.IntegerType.{IntegerType}
-use Rattle.c_tree.specs.declared.types.IntegerType.TheVariants.{Char, Short, Int}
+use Rattle.c_tree.specs.declared.types.IntegerType.TheVariants.{Char, Short, Int, UnsignedInt}
 use Rattle.c_tree.specs.declared.types.ValueType.{ValueType}
 use Rattle.c_tree.specs.declared.types.ValueType.TheVariants.{Void, Integer, Pointer}
 use Rattle.c_tree.specs.Evaluation.{type_of}
+use Rattle.c_tree.specs.Operators.{is_signed, numbers_type}
 use Rattle.c_tree.specs.Program.{int, Local}
-use Rattle.c_tree.specs.WellTyped.{BinaryGives}
-use Rattle.flow_graph.specs.declared.op.Comparison.{Comparison}
+use Rattle.c_tree.specs.WellTyped.{BinaryGives, IsInteger}
+use Rattle.flow_graph.specs.declared.op.Comparison.TheVariants.{Lt, Le, Gt, Ge}
 use Rattle.flow_graph.specs.declared.op.Op.TheVariants as op
+use Rattle.flow_graph.specs.declared.op.Order.TheVariants as order
 use Rattle.flow_graph.specs.Graphs.{HasWidth}
 use Rattle.lower_lines.specs.Lines.{Line, Start, Emit, ops_in}
-use Rattle.lower_lines.specs.Operators.{applied, applied_blocks, branching, comparison_of, computing, equality_test}
+use Rattle.lower_lines.specs.Operators.{NumberTest, WithSigns, WithoutSigns, applied, applied_blocks, branching}
+use Rattle.lower_lines.specs.Operators.{computing, equality_test, order_in, test_of, test_set}
 use Rattle.lower_lines.specs.Operators.{moving, on_numbers, on_pointer, on_pointer_blocks, on_pointers}
 use Rattle.lower_lines.specs.Operators.{on_pointers_blocks}
 use Rattle.lower_lines.specs.Parts.{Wanted, Dropped, Own, ToLocal, Tests, chosen, chosen_blocks, converted_lines}
@@ -33,8 +37,24 @@ use Rattle.lower_lines.specs.Parts.{test_blocks, test_lines, tested, tested_bloc
 use Rattle.lower_lines.specs.Shown.{first_variable, local_widths, type_widths}
 use Rattle.lower_lines.specs.Variables.{Context, Role, ForArray, ForByte, ForNumber, ForScratch, Spot, copied}
 use Rattle.lower_lines.specs.Variables.{levels_of, levels_widths, local_spot, moved, own, temporary, typed_spot}
+use Rattle.lower_laws.proofs.Types.{integer-of}
 use Rattle.lower_laws.proofs.Widths.{get-before, local-width, role_width, temporary-width}
 use Rattle.lower_laws.specs.FitsLaws.{IsGood, Room}
+
+-- What the lines of an operator give, by the types of its operands: of two numbers a number, which is one of every integer
+-- type; with a pointer among them, a value of the type that the operator gives.
+abbrev pub LinesGive : BinaryOp → ValueType → ValueType → ValueType → Type 0
+LinesGive operator (Integer s) (Integer t) of = IsInteger of
+LinesGive operator s t of = BinaryGives operator s t of
+
+pub lines-give : (operator : BinaryOp) (s t of : ValueType) → BinaryGives operator s t of → LinesGive operator s t of
+lines-give operator (Integer s) (Integer t) of g = subst IsInteger (sym g) tt
+lines-give operator (Pointer s) (Integer t) of g = g
+lines-give operator (Integer s) (Pointer t) of g = g
+lines-give operator (Pointer s) (Pointer t) of g = g
+lines-give operator Void t of g = absurd g
+lines-give operator (Integer s) Void of g = absurd g
+lines-give operator (Pointer s) Void of g = absurd g
 
 pub small : (n : ℕ) → n < 0x80000000 → FitsSigned w32 (pos n)
 small n h = record { sfits = h }
@@ -116,6 +136,7 @@ module _ (R : Room) where
   IsWide (Integer Char) = ⊥
   IsWide (Integer Short) = Unit {0}
   IsWide (Integer Int) = Unit {0}
+  IsWide (Integer UnsignedInt) = Unit {0}
   IsWide Void = Unit {0}
   IsWide (Pointer t) = Unit {0}
 
@@ -132,6 +153,11 @@ module _ (R : Room) where
       let v = first_variable R.function.locals k in
       let plain : v + 0 ≡ v = omega arith in
       subst (λ (s : Spot). Wide s.number) (sym (spot-is k l (Integer Int) at e)) (subst (λ (n : ℕ). Wide n) plain
+      (variable-width k 0 l Two at (ap (λ (m : ValueType). slice_get (type_widths m) 0) e)))
+  local-holds k l (Integer UnsignedInt) at e wide =
+      let v = first_variable R.function.locals k in
+      let plain : v + 0 ≡ v = omega arith in
+      subst (λ (s : Spot). Wide s.number) (sym (spot-is k l (Integer UnsignedInt) at e)) (subst (λ (n : ℕ). Wide n) plain
       (variable-width k 0 l Two at (ap (λ (m : ValueType). slice_get (type_widths m) 0) e)))
   local-holds k l (Pointer t) at e wide =
       let v = first_variable R.function.locals k in
@@ -192,29 +218,59 @@ module _ (R : Room) where
       let byte = temp level ForByte room in (((byte, (k, tt)), tt), (((h, (byte, tt)), tt), tt))
   converting-fit level Short to from room h k = (((h, (k, tt)), tt), tt)
   converting-fit level Int to from room h k = copied-fit to from h k
+  converting-fit level UnsignedInt to from room h k = copied-fit to from h k
 
-  pub computing-fit : (level : ℕ) (operator : BinaryOp) (to x y : ℕ) → level < levels_in → Wide to → Wide x → Wide y
-      → Fit (computing c level operator to x y)
-  computing-fit level Divide to x y room h a b =
-      let z = temp level ForScratch room in ((((Two, z, a), tt), tt), (((h, (z, (b, tt))), tt), tt))
-  computing-fit level Remainder to x y room h a b =
-      let z = temp level ForScratch room in ((((Two, z, a), tt), tt), (((h, (z, (b, tt))), tt), tt))
-  computing-fit level ShiftLeft to x y room h a b =
+  set-good : (test : NumberTest) (to x y : ℕ) → Wide to → Wide x → Wide y → IsGood R.flow (test_set test to x y)
+  set-good (WithSigns how) to x y h a b = ((h, (a, (b, tt))), tt)
+  set-good (WithoutSigns how) to x y h a b = ((h, (a, (b, tt))), tt)
+
+  pub computing-fit : (level : ℕ) (within : IntegerType) (operator : BinaryOp) (to x y : ℕ) → level < levels_in
+      → Wide to → Wide x → Wide y → Fit (computing c level within operator to x y)
+  computing-fit level within Divide to x y room h a b =
+      let z = temp level ForScratch room in (
+        (((Two, z, a), tt), tt),
+        (
+          cond_both (is_signed within) _ _ (IsGood R.flow) (λ _. ((h, (z, (b, tt))), tt))
+              (λ _. ((h, (z, (b, tt))), tt)),
+          tt,
+        ),
+      )
+  computing-fit level within Remainder to x y room h a b =
+      let z = temp level ForScratch room in (
+        (((Two, z, a), tt), tt),
+        (
+          cond_both (is_signed within) _ _ (IsGood R.flow) (λ _. ((h, (z, (b, tt))), tt))
+              (λ _. ((h, (z, (b, tt))), tt)),
+          tt,
+        ),
+      )
+  computing-fit level within ShiftLeft to x y room h a b =
       let n = temp level ForByte room in (((n, (b, tt)), tt), (((h, (a, (n, tt))), tt), tt))
-  computing-fit level ShiftRight to x y room h a b =
-      let n = temp level ForByte room in (((n, (b, tt)), tt), (((h, (a, (n, tt))), tt), tt))
-  computing-fit level Multiply to x y room h a b = (((h, (a, (b, tt))), tt), tt)
-  computing-fit level Add to x y room h a b = (((h, (a, (b, tt))), tt), tt)
-  computing-fit level Subtract to x y room h a b = (((h, (a, (b, tt))), tt), tt)
-  computing-fit level Less to x y room h a b = (((h, (a, (b, tt))), tt), tt)
-  computing-fit level Greater to x y room h a b = (((h, (a, (b, tt))), tt), tt)
-  computing-fit level LessOrEqual to x y room h a b = (((h, (a, (b, tt))), tt), tt)
-  computing-fit level GreaterOrEqual to x y room h a b = (((h, (a, (b, tt))), tt), tt)
-  computing-fit level Equal to x y room h a b = (((h, (a, (b, tt))), tt), tt)
-  computing-fit level NotEqual to x y room h a b = (((h, (a, (b, tt))), tt), tt)
-  computing-fit level BitAnd to x y room h a b = (((h, (a, (b, tt))), tt), tt)
-  computing-fit level BitXor to x y room h a b = (((h, (a, (b, tt))), tt), tt)
-  computing-fit level BitOr to x y room h a b = (((h, (a, (b, tt))), tt), tt)
+  computing-fit level within ShiftRight to x y room h a b =
+      let n = temp level ForByte room in (
+        ((n, (b, tt)), tt),
+        (
+          cond_both (is_signed within) _ _ (IsGood R.flow) (λ _. ((h, (a, (n, tt))), tt))
+              (λ _. ((h, (a, (n, tt))), tt)),
+          tt,
+        ),
+      )
+  computing-fit level within Multiply to x y room h a b = (((h, (a, (b, tt))), tt), tt)
+  computing-fit level within Add to x y room h a b = (((h, (a, (b, tt))), tt), tt)
+  computing-fit level within Subtract to x y room h a b = (((h, (a, (b, tt))), tt), tt)
+  computing-fit level within Less to x y room h a b =
+      (set-good (order_in within Lt order.Lt) to x y h a b, tt)
+  computing-fit level within Greater to x y room h a b =
+      (set-good (order_in within Gt order.Gt) to x y h a b, tt)
+  computing-fit level within LessOrEqual to x y room h a b =
+      (set-good (order_in within Le order.Le) to x y h a b, tt)
+  computing-fit level within GreaterOrEqual to x y room h a b =
+      (set-good (order_in within Ge order.Ge) to x y h a b, tt)
+  computing-fit level within Equal to x y room h a b = (((h, (a, (b, tt))), tt), tt)
+  computing-fit level within NotEqual to x y room h a b = (((h, (a, (b, tt))), tt), tt)
+  computing-fit level within BitAnd to x y room h a b = (((h, (a, (b, tt))), tt), tt)
+  computing-fit level within BitXor to x y room h a b = (((h, (a, (b, tt))), tt), tt)
+  computing-fit level within BitOr to x y room h a b = (((h, (a, (b, tt))), tt), tt)
 
   -- ---- tests and values
 
@@ -332,21 +388,25 @@ module _ (R : Room) where
 
   -- ---- operators by the types of their operands
 
-  branching-fit : (how : Option Comparison) (w : Wanted) (otherwise : List Line) (x y : ℕ) → May w int → Wide x → Wide y
-      → Fit otherwise → Fit (branching how w otherwise x y)
-  branching-fit (Some how) (Tests holds fails) otherwise x y m a b h = (((a, (b, (m.0, (m.1, tt)))), tt), tt)
-  branching-fit (Some how) Dropped otherwise x y m a b h = h
-  branching-fit (Some how) Own otherwise x y m a b h = h
-  branching-fit (Some how) (ToLocal local) otherwise x y m a b h = h
+  branching-fit : (test : Option NumberTest) (w : Wanted) (otherwise : List Line) (x y : ℕ) → May w int → Wide x
+      → Wide y → Fit otherwise → Fit (branching test w otherwise x y)
+  branching-fit (Some (WithSigns how)) (Tests holds fails) otherwise x y m a b h =
+      (((a, (b, (m.0, (m.1, tt)))), tt), tt)
+  branching-fit (Some (WithoutSigns how)) (Tests holds fails) otherwise x y m a b h =
+      (((a, (b, (m.0, (m.1, tt)))), tt), tt)
+  branching-fit (Some test) Dropped otherwise x y m a b h = h
+  branching-fit (Some test) Own otherwise x y m a b h = h
+  branching-fit (Some test) (ToLocal local) otherwise x y m a b h = h
   branching-fit None w otherwise x y m a b h = h
 
-  pub on-numbers-fit : (block level : ℕ) (w : Wanted) (operator : BinaryOp) (x y : ℕ) → level < levels_in → May w int
-      → Wide x → Wide y → block ≤ blocks_in → Fit (on_numbers c block level w operator x y)
-  on-numbers-fit block level w operator x y room m a b more =
-      let ops : Spot → List Line = λ to. computing c level operator to.number x y in
-      branching-fit (comparison_of operator) w (made c block level w int ops) x y m a b
+  pub on-numbers-fit : (block level : ℕ) (w : Wanted) (within : IntegerType) (operator : BinaryOp) (x y : ℕ)
+      → level < levels_in → May w int → Wide x → Wide y → block ≤ blocks_in
+      → Fit (on_numbers c block level w within operator x y)
+  on-numbers-fit block level w within operator x y room m a b more =
+      let ops : Spot → List Line = λ to. computing c level within operator to.number x y in
+      branching-fit (test_of within operator) w (made c block level w int ops) x y m a b
       (made-number-fit block level w Int ops room m more
-      (λ to h. computing-fit level operator to.number x y room h a b))
+      (λ to h. computing-fit level within operator to.number x y room h a b))
 
   moving-add : (to x : Spot) (n : ℕ) → Wide to.array × Wide to.number → Wide x.array × Wide x.number → Wide n
       → Fit (copied to.array x.array ++ Emit (op.Add to.number x.number n) ∷ [])
@@ -422,9 +482,9 @@ module _ (R : Room) where
 
   both-fit : (block level : ℕ) (w : Wanted) (operator : BinaryOp) (x y : Spot) → level < levels_in → May w int
       → Wide x.array × Wide x.number → Wide y.array × Wide y.number → block ≤ blocks_in
-      → Fit (Emit (op.Same x.array y.array) ∷ on_numbers c block level w operator x.number y.number)
+      → Fit (Emit (op.Same x.array y.array) ∷ on_numbers c block level w Int operator x.number y.number)
   both-fit block level w operator x y room m h k more =
-      (((h.0, (k.0, tt)), tt), on-numbers-fit block level w operator x.number y.number room m h.1 k.1 more)
+      (((h.0, (k.0, tt)), tt), on-numbers-fit block level w Int operator x.number y.number room m h.1 k.1 more)
 
   on-pointers-fit : (block level : ℕ) (w : Wanted) (operator : BinaryOp) (x y : Spot) → level < levels_in → May w int
       → Wide x.array × Wide x.number → Wide y.array × Wide y.number → block + on_pointers_blocks w operator ≤ blocks_in
@@ -465,14 +525,15 @@ module _ (R : Room) where
       both-fit block level w BitOr x y room m h k (omega (arith, more))
 
   pub applied-fit : (block level : ℕ) (w : Wanted) (operator : BinaryOp) (s t of : ValueType) (x y : Spot)
-      → BinaryGives operator s t of → level < levels_in → May w of → Holds s x → Holds t y
+      → LinesGive operator s t of → level < levels_in → May w of → Holds s x → Holds t y
       → block + applied_blocks w operator s t ≤ blocks_in → Fit (applied c block level w operator s t x y)
   applied-fit block level w operator Void t of x y g room m h k more = absurd g
   applied-fit block level w operator (Integer s) Void of x y g room m h k more = absurd g
   applied-fit block level w operator (Pointer s) Void of x y g room m h k more = absurd g
   applied-fit block level w operator (Integer s) (Integer t) of x y g room m h k more =
-      on-numbers-fit block level w operator x.number y.number room (subst (λ (v : ValueType). May w v) g m) h k
-      (omega (arith, more))
+      let (u, e) = integer-of of g in
+      on-numbers-fit block level w (numbers_type operator s t) operator x.number y.number room
+      (may-integer w u Int (subst (λ (v : ValueType). May w v) e m)) h k (omega (arith, more))
   applied-fit block level w operator (Pointer s) (Integer t) of x y g room m h k more =
       on-pointer-fit block level w operator s of x y.number g room m h k more
   applied-fit block level w operator (Integer s) (Pointer t) of x y g room m h k more =

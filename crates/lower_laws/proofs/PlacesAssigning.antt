@@ -9,7 +9,7 @@ use Rattle.std.specs.Prelude.{slice_get}
 use Rattle.pcc_base.specs.Outcome.{ArrayName, Value}
 use Rattle.c_eval_laws.specs.Bounds.{state_of}
 use Rattle.c_tree.specs.declared.types.IntegerType.{IntegerType}
-use Rattle.c_tree.specs.declared.types.IntegerType.TheVariants.{Char, Short, Int}
+use Rattle.c_tree.specs.declared.types.IntegerType.TheVariants.{Char, Short, Int, UnsignedInt}
 use Rattle.c_tree.specs.declared.types.ValueType.{ValueType}
 use Rattle.c_tree.specs.declared.types.ValueType.TheVariants.{Void, Integer, Pointer}
 use Rattle.c_tree.specs.Evaluation as evaluation
@@ -56,6 +56,9 @@ held-same vs ws (Integer Short) v (HoldsNumber n) a b j low high =
     let e : j ≡ v = omega (arith, low, high) in
     ap (slice_get ws) e ∙ b ∙ sym a ∙ sym (ap (slice_get vs) e)
 held-same vs ws (Integer Int) v (HoldsNumber n) a b j low high =
+    let e : j ≡ v = omega (arith, low, high) in
+    ap (slice_get ws) e ∙ b ∙ sym a ∙ sym (ap (slice_get vs) e)
+held-same vs ws (Integer UnsignedInt) v (HoldsNumber n) a b j low high =
     let e : j ≡ v = omega (arith, low, high) in
     ap (slice_get ws) e ∙ b ∙ sym a ∙ sym (ap (slice_get vs) e)
 held-same vs ws (Integer t) v (HoldsPointer array index) a b j low high = absurd a

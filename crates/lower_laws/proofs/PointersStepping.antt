@@ -98,7 +98,7 @@ step-moves PostDecrement = tt
 
 -- what the assignment that a step is does
 abbrev new_given : IntegerType → StepOp → ℕ → source.State → Evaluated Held
-new_given t operator k s = updated (Pointer t) (step_op operator) (InLocal k) (held s k) (HoldsNumber (pos 1)) s
+new_given t operator k s = updated (Pointer t) Int (step_op operator) (InLocal k) (held s k) (HoldsNumber (pos 1)) s
 
 -- lines after which an old value is given in place of the new one
 abbrev old_given : IntegerType → StepOp → ℕ → Held → source.State → Evaluated Held

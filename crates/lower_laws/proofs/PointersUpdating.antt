@@ -4,6 +4,7 @@ use Rattle.std.specs.Prelude.{slice_get}
 use Rattle.c_eval_laws.specs.Bounds.{state_of}
 use Rattle.c_tree.specs.declared.expression.BinaryOp.{BinaryOp}
 use Rattle.c_tree.specs.declared.types.IntegerType.{IntegerType}
+use Rattle.c_tree.specs.declared.types.IntegerType.TheVariants.{Int}
 use Rattle.c_tree.specs.declared.types.ValueType.TheVariants.{Integer, Pointer}
 use Rattle.c_tree.specs.Evaluation.{InLocal, computed, evaluate, updated}
 use Rattle.c_tree.specs.Operators.{Computed, Computes, Traps, binary_value}
@@ -26,7 +27,7 @@ use Rattle.lower_laws.specs.PointersLaws.{PointersAreMoved}
 
 -- what an assignment with an operator does
 abbrev pub updating : IntegerType → BinaryOp → ℕ → (source.State → Evaluated Held) → source.State → Evaluated Held
-updating t operator k run s = and_then (run s) (updated (Pointer t) operator (InLocal k) (held s k))
+updating t operator k run s = and_then (run s) (updated (Pointer t) Int operator (InLocal k) (held s k))
 
 pub update-lowers : (S : Site) (site : IsSite S) (operator : BinaryOp) → MovesPointer operator → (k : ℕ) (l : Local)
     (t : IntegerType) → slice_get S.function.locals k ≡ Some l → l.of ≡ Pointer t → (a : Part)
@@ -37,14 +38,14 @@ pub update-lowers : (S : Site) (site : IsSite S) (operator : BinaryOp) → Moves
 update-lowers S site operator moves k l t there of a run u la of' falls =
     let name = local_part (context_of S) (Pointer t) k in
     let reads : source.State → Evaluated Held = λ s. Gives (held s k) s in
-    lowers-same S _ (λ s. and_then (after_both operator reads run s) (assigning t k)) (updating t operator k run)
-    (λ s. then-then (run s) (λ y u. computed (binary_value operator (held s k) y) u) (assigning t k))
+    lowers-same S _ (λ s. and_then (after_both Int operator reads run s) (assigning t k)) (updating t operator k run)
+    (λ s. then-then (run s) (λ y u. computed (binary_value Int operator (held s k) y) u) (assigning t k))
     (assigned-lowers S site k l t there of (binary_part (context_of S) (Pointer t) operator name a)
-    (after_both operator reads run)
-    (operator-lowers S (Pointer t) operator name a reads run (Pointer t) (Integer u)
+    (after_both Int operator reads run)
+    (operator-lowers S (Pointer t) Int operator name a reads run (Pointer t) (Integer u)
     (pointers-read S site k l t there of) refl la of' (pointer-not-void t) (integer-not-void u) (λ s. omega arith) falls
     (moves-apply S site operator t u moves)) (inl refl) (max-behind name.levels a.levels)
-    (λ s. operator-falls operator (held s k) (run s) s.turns (falls s)))
+    (λ s. operator-falls Int operator (held s k) (run s) s.turns (falls s)))
 
 pub pointers-moved : PointersAreMoved
 pointers-moved S site operator moves k l t there of e u lowers of' =

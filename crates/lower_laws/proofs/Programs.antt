@@ -9,7 +9,7 @@ use Rattle.std.specs.List.{All, AllZip}
 use Rattle.std.proofs.lemmas.Bool.{false≢true}
 use Rattle.pcc_base.specs.Objects.{FitsBytes}
 use Rattle.c_tree.specs.declared.types.IntegerType.{IntegerType}
-use Rattle.c_tree.specs.declared.types.IntegerType.TheVariants.{Char, Short, Int}
+use Rattle.c_tree.specs.declared.types.IntegerType.TheVariants.{Char, Short, Int, UnsignedInt}
 use Rattle.c_tree.specs.Sizes.{bytes_of}
 use Rattle.pcc_base.specs.Outcome.{End, Ended, Listing, Outcome, Visit}
 use Rattle.c_tree.specs.declared.types.ValueType.{ValueType}
@@ -77,6 +77,7 @@ bytes-fit Short (negsuc m) h =
     let low : negsuc 0x7fff ≤ℤ negsuc m = h.0 in
     int_wrap_fits w16 (negsuc m) (record { sfits = omega (arith, ints, low) })
 bytes-fit Int n h = refl
+bytes-fit UnsignedInt n h = refl
 
 objects-fit : (os : List StaticObject) → All IsObject (map data_object os)
     → AllZip (λ o elements. AreNumbersOf o.element elements) os (map (λ o. o.elements) os)

@@ -8,7 +8,7 @@ use Rattle.std.proofs.lemmas.Option.{same_Some}
 use Rattle.pcc_base.specs.Outcome.{Value, Number}
 use Rattle.pcc_base.specs.declared.run.Width.TheVariants.{Two}
 use Rattle.c_tree.specs.declared.types.IntegerType.{IntegerType}
-use Rattle.c_tree.specs.declared.types.IntegerType.TheVariants.{Char, Short, Int}
+use Rattle.c_tree.specs.declared.types.IntegerType.TheVariants.{Char, Short, Int, UnsignedInt}
 use Rattle.c_tree.specs.declared.types.ValueType.{ValueType}
 use Rattle.c_tree.specs.declared.types.ValueType.TheVariants.{Integer}
 use Rattle.c_tree.specs.Evaluation.{type_of}
@@ -170,6 +170,7 @@ module _ (S : Site) (site : IsSite S) (older : List Function) (k : ℕ) (l : Loc
       some-width Char = omega arith
       some-width Short = omega arith
       some-width Int = omega arith
+      some-width UnsignedInt = omega arith
 
       chosen-start : (holds : Bool) (yes' no' : ℕ) → MayWant S (Tests yes' no') (Integer u)
           → (other : List Line) × Stand S other (Start (if holds then yes' else no') ∷ [])
@@ -238,4 +239,11 @@ locals-lower S site k l Int e of wide = record {
   simple = λ same active s g begins. refl;
   stands = λ spot same.
       (k, sym (same_Some (local_spot (context_of S) k) spot same), stands-there S k l Int e of tt, λ s. refl);
+}
+locals-lower S site k l UnsignedInt e of wide = record {
+  follows = read-local S site k l UnsignedInt e of;
+  typed = λ active block level wanted before s g stands room may. typed-local S k l UnsignedInt e of active s g;
+  simple = λ same active s g begins. refl;
+  stands = λ spot same.
+      (k, sym (same_Some (local_spot (context_of S) k) spot same), stands-there S k l UnsignedInt e of tt, λ s. refl);
 }

@@ -5,7 +5,7 @@ use Rattle.std.specs.Prelude.{if◌then◌else◌}
 use Rattle.std.proofs.lemmas.Bool.Decides.{eqb_tells}
 use Rattle.std.proofs.lemmas.Option.{same_Some}
 use Rattle.c_tree.specs.declared.types.IntegerType.{IntegerType}
-use Rattle.c_tree.specs.declared.types.IntegerType.TheVariants.{Char, Short, Int}
+use Rattle.c_tree.specs.declared.types.IntegerType.TheVariants.{Char, Short, Int, UnsignedInt}
 use Rattle.c_tree.specs.declared.types.ValueType.{ValueType}
 use Rattle.c_tree.specs.declared.types.ValueType.TheVariants.{Void, Integer, Pointer}
 use Rattle.c_tree.specs.Program.{int}
@@ -262,6 +262,7 @@ module _ (c : Context) where
     converting-flows level Short S to from h =
         writes (op.Low16 to from) to S (to ∷ S) [] (refl, refl, refl) refl (one-in S from h) (λ v is. is)
     converting-flows level Int S to from h = copied-flows S to from h
+    converting-flows level UnsignedInt S to from h = copied-flows S to from h
 
     -- ---- tests
 

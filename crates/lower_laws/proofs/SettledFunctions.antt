@@ -4,7 +4,7 @@ use Rattle.std.proofs.Common.{take}
 use Rattle.std.specs.List.{range_with_len}
 use Rattle.std.proofs.lemmas.List.Elements.{recursion_from_All}
 use Rattle.pcc_base.proofs.Lists.{all-at}
-use Rattle.c_tree.specs.declared.types.IntegerType.TheVariants.{Char, Short, Int}
+use Rattle.c_tree.specs.declared.types.IntegerType.TheVariants.{Char, Short, Int, UnsignedInt}
 use Rattle.c_tree.specs.declared.types.ValueType.{ValueType}
 use Rattle.c_tree.specs.declared.types.ValueType.TheVariants.{Void, Integer, Pointer}
 use Rattle.c_tree.specs.Program.{Block, Local}
@@ -48,6 +48,9 @@ parameter-flows c B (Integer Short) spot word S =
     (writes c B (op.Low16 spot.number y) spot.number (y ∷ S) (spot.number ∷ S) [] (refl, refl, refl) refl
     (one-in (y ∷ S) y (inl refl)) (past spot.number y S))
 parameter-flows c B (Integer Int) spot word S =
+    writes c B (op.Param spot.number word) spot.number S (spot.number ∷ S) [] (refl, refl, refl) refl
+    (λ v is. absurd is) (λ v is. is)
+parameter-flows c B (Integer UnsignedInt) spot word S =
     writes c B (op.Param spot.number word) spot.number S (spot.number ∷ S) [] (refl, refl, refl) refl
     (λ v is. absurd is) (λ v is. is)
 parameter-flows c B (Pointer t) spot word S =

@@ -5,7 +5,7 @@ use Rattle.std.specs.Prelude.{◌/◌, slice_get, sum_by}
 use Rattle.std.specs.List.{AllByRecursion}
 use Rattle.std.proofs.lemmas.List.Sums.{sum_by-cons}
 use Rattle.c_tree.specs.declared.types.IntegerType.{IntegerType}
-use Rattle.c_tree.specs.declared.types.IntegerType.TheVariants.{Char, Short, Int}
+use Rattle.c_tree.specs.declared.types.IntegerType.TheVariants.{Char, Short, Int, UnsignedInt}
 use Rattle.c_tree.specs.Program.{First, Nothing, Evaluated, Declared, Item, Scalar, Array, Statement, Declare, Empty}
 use Rattle.c_tree.specs.Program.{Evaluate, Block, If, While, Do, For, Switch, Break, Continue, Return, Statements, Done}
 use Rattle.c_tree.specs.Program.{Next, Function, LocalArray}
@@ -104,6 +104,7 @@ pub count-small : (t : IntegerType) (n : ℕ) → n ≤ (n * bytes_of t + 3) / 4
 count-small Char n = omega arith
 count-small Short n = omega arith
 count-small Int n = omega arith
+count-small UnsignedInt n = omega arith
 
 pub counts-small : (arrays : List LocalArray) (n : ℕ) → sum_by array_bytes arrays ≤ n → n ≤ 0x7fffffff
     → AllByRecursion (λ a. a.count ≤ 0x7fffffff) arrays

@@ -10,7 +10,7 @@ use Rattle.pcc_base.specs.declared.run.Width.TheVariants.{One, Two}
 use Rattle.pcc_base.proofs.Lists.{all-at}
 use Rattle.c_tree.specs.declared.statement.Label.{Label}
 use Rattle.c_tree.specs.declared.types.IntegerType.{IntegerType}
-use Rattle.c_tree.specs.declared.types.IntegerType.TheVariants.{Char, Short, Int}
+use Rattle.c_tree.specs.declared.types.IntegerType.TheVariants.{Char, Short, Int, UnsignedInt}
 use Rattle.c_tree.specs.declared.types.ValueType.{ValueType}
 use Rattle.c_tree.specs.declared.types.ValueType.TheVariants.{Void, Integer, Pointer}
 use Rattle.c_tree.specs.Evaluation.{first_label, is_default, type_at, type_of}
@@ -103,6 +103,8 @@ module _ (R : Room) (functions : AllByRecursion (IsTypedFunction R.program) R.pr
       ((((Two, local-holds R v l (Integer Short) at e tt), tt), small 0 (omega arith)), tt)
   zero-fit v l (Integer Int) at e =
       ((((Two, local-holds R v l (Integer Int) at e tt), tt), small 0 (omega arith)), tt)
+  zero-fit v l (Integer UnsignedInt) at e =
+      ((((Two, local-holds R v l (Integer UnsignedInt) at e tt), tt), small 0 (omega arith)), tt)
   zero-fit v l (Pointer t) at e =
       let h = local-holds R v l (Pointer t) at e tt in (
         (((Two, h.0), tt), small 0 (omega arith)),

@@ -13,12 +13,12 @@ use Rattle.c_tree.specs.declared.expression.StepOp.{StepOp}
 use Rattle.c_tree.specs.declared.expression.StepOp.TheVariants.{PreIncrement, PreDecrement, PostIncrement}
 use Rattle.c_tree.specs.declared.expression.StepOp.TheVariants.{PostDecrement}
 use Rattle.c_tree.specs.declared.types.IntegerType.{IntegerType}
-use Rattle.c_tree.specs.declared.types.IntegerType.TheVariants.{Char, Short, Int}
+use Rattle.c_tree.specs.declared.types.IntegerType.TheVariants.{Char, Short, Int, UnsignedInt}
 use Rattle.c_tree.specs.declared.types.ValueType.{ValueType}
 use Rattle.c_tree.specs.declared.types.ValueType.TheVariants.{Integer}
 use Rattle.c_tree.specs.Evaluation.{InLocal, computed, evaluate, updated}
-use Rattle.c_tree.specs.Operators.{Computed, Computes, Traps, binary_value, step_op}
-use Rattle.c_tree.specs.Program.{Local, Function, int}
+use Rattle.c_tree.specs.Operators.{Computed, Computes, Traps, binary_value, numbers_type, step_op, step_type}
+use Rattle.c_tree.specs.Program.{Local, LocalPlace, Function, Update, int, value_type}
 use Rattle.c_tree.specs.Store as source
 use Rattle.c_tree.specs.Store.{Evaluated, Gives, Ends, Held, HoldsNumber, HoldsPointer, and_then, held}
 use Rattle.flow_graph.specs.declared.op.Comparison.TheVariants.{Ne}
@@ -41,7 +41,7 @@ use Rattle.lower_lines.proofs.Locals.{get-set_other, get-set_same}
 use Rattle.lower_lines.proofs.Steps.{branch-step, const-step}
 use Rattle.lower_laws.proofs.Assigning.{assigned-lowers, assigning, local-lowers, local-of}
 use Rattle.lower_laws.proofs.Atoms.{constants-lower}
-use Rattle.lower_laws.proofs.Binary.{Fits, after_both, binary-lowers, compound-lowers, turns-fall}
+use Rattle.lower_laws.proofs.Binary.{Fits, after_both, binary-lowers, compound-lowers, turns-fall, works-in}
 use Rattle.lower_laws.proofs.Converting.{lowers-fit}
 use Rattle.lower_laws.proofs.Going.{stand-back, stand-front}
 use Rattle.lower_laws.proofs.Levels.{max-behind}
@@ -83,34 +83,40 @@ pub computed-falls : (c : Computed) (t : source.State) (turns : ℕ) → t.turns
 computed-falls (Computes v) t turns h = h
 computed-falls (Traps trap) t turns h = h
 
-pub operator-falls : (operator : BinaryOp) (x : Held) (r : Evaluated Held) (turns : ℕ) → (state_of r).turns ≤ turns
-    → (state_of (and_then r (λ y u. computed (binary_value operator x y) u))).turns ≤ turns
-operator-falls operator x (Gives y u) turns h = computed-falls (binary_value operator x y) u turns h
-operator-falls operator x (Ends end u) turns h = h
+pub operator-falls : (within : IntegerType) (operator : BinaryOp) (x : Held) (r : Evaluated Held) (turns : ℕ)
+    → (state_of r).turns ≤ turns
+    → (state_of (and_then r (λ y u. computed (binary_value within operator x y) u))).turns ≤ turns
+operator-falls within operator x (Gives y u) turns h = computed-falls (binary_value within operator x y) u turns h
+operator-falls within operator x (Ends end u) turns h = h
 
--- what an assignment with an operator does
-abbrev pub updating : IntegerType → BinaryOp → ℕ → (source.State → Evaluated Held) → source.State → Evaluated Held
-updating w operator k run s = and_then (run s) (updated (Integer w) operator (InLocal k) (held s k))
+-- what an assignment does with an operator that works in a type
+abbrev pub updating : IntegerType → IntegerType → BinaryOp → ℕ → (source.State → Evaluated Held) → source.State
+    → Evaluated Held
+updating w within operator k run s = and_then (run s) (updated (Integer w) within operator (InLocal k) (held s k))
 
 pub update-lowers : (S : Site) (site : IsSite S) (operator : BinaryOp) (k : ℕ) (l : Local) (w : IntegerType)
     → slice_get S.function.locals k ≡ Some l → l.of ≡ Integer w → (a : Part) (run : source.State → Evaluated Held)
     (u : IntegerType) → Lowers S a run → a.of ≡ Integer u → Falls run
     → Lowers S (assigned_local (context_of S) (Integer w) k
-    (binary_part (context_of S) int operator (local_part (context_of S) (Integer w) k) a)) (updating w operator k run)
+    (binary_part (context_of S) int operator (local_part (context_of S) (Integer w) k) a))
+    (updating w (numbers_type operator w u) operator k run)
 update-lowers S site operator k l w e of a run u la of' falls =
     let name = local_part (context_of S) (Integer w) k in
     let reads : source.State → Evaluated Held = λ s. Gives (held s k) s in
-    lowers-same S _ (λ s. and_then (after_both operator reads run s) (assigning w k)) (updating w operator k run)
-    (λ s. then-then (run s) (λ y u. computed (binary_value operator (held s k) y) u) (assigning w k))
-    (assigned-lowers S site k l w e of (binary_part (context_of S) int operator name a) (after_both operator reads run)
-    Int
+    let within : IntegerType = numbers_type operator w u in
+    lowers-same S _ (λ s. and_then (after_both within operator reads run s) (assigning w k))
+    (updating w within operator k run)
+    (λ s. then-then (run s) (λ y u. computed (binary_value within operator (held s k) y) u) (assigning w k))
+    (assigned-lowers S site k l w e of (binary_part (context_of S) int operator name a)
+    (after_both within operator reads run) Int
     (binary-lowers S site operator name a reads run w u (local-lowers S site k l w e of) (local-of S k w) la of'
     (λ s. omega arith)) refl (max-behind name.levels a.levels)
-    (λ s. operator-falls operator (held s k) (run s) s.turns (falls s)))
+    (λ s. operator-falls within operator (held s k) (run s) s.turns (falls s)))
 
 pub updates-lower : UpdatesLower
-updates-lower S site operator k l w there of e u lowers of' =
-    lowers-same S _ (updating w operator k (evaluate S.calls e)) _ (λ s. refl)
+updates-lower S site operator k l w there of e u typed lowers of' =
+    subst (λ (v : IntegerType). Lowers S (part_of (context_of S) (Update (Integer w) operator (LocalPlace k) e))
+    (updating w v operator k (evaluate S.calls e))) (works-in operator (Integer w) (value_type e) w u refl typed)
     (update-lowers S site operator k l w there of (part_of (context_of S) e) (evaluate S.calls e) u lowers of'
     (turns-fall S site e))
 
@@ -229,13 +235,15 @@ update_of S w operator k = update_part (context_of S) (Integer w) (step_op opera
 
 -- what it does
 abbrev new_given : IntegerType → StepOp → ℕ → source.State → Evaluated Held
-new_given w operator k s = updated (Integer w) (step_op operator) (InLocal k) (held s k) (HoldsNumber (pos 1)) s
+new_given w operator k s =
+    updated (Integer w) (step_type operator (Integer w)) (step_op operator) (InLocal k) (held s k) (HoldsNumber (pos 1)) s
 
 pub assigned-of : (S : Site) (w : IntegerType) (k : ℕ) (a : Part)
     → (assigned_local (context_of S) (Integer w) k a).of ≡ Integer w
 assigned-of S Char k a = refl
 assigned-of S Short k a = refl
 assigned-of S Int k a = refl
+assigned-of S UnsignedInt k a = refl
 
 module _ (S : Site) (site : IsSite S) (k : ℕ) (l : Local) (w : IntegerType)
     (e : slice_get S.function.locals k ≡ Some l) (of : l.of ≡ Integer w) (operator : StepOp) where
@@ -247,7 +255,8 @@ module _ (S : Site) (site : IsSite S) (k : ℕ) (l : Local) (w : IntegerType)
 
   update-does : Lowers S update (new_given w operator k)
   update-does =
-      lowers-same S update (updating w (step_op operator) k (λ s. Gives (HoldsNumber (pos 1)) s))
+      lowers-same S update
+      (updating w (step_type operator (Integer w)) (step_op operator) k (λ s. Gives (HoldsNumber (pos 1)) s))
       (new_given w operator k)
       (λ s. refl)
       (update-lowers S site (step_op operator) k l w e of (one_part (context_of S)) (λ s. Gives (HoldsNumber

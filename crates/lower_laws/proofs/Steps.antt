@@ -5,10 +5,10 @@ use Rattle.c_tree.specs.declared.expression.StepOp.{StepOp}
 use Rattle.c_tree.specs.declared.expression.StepOp.TheVariants.{PreIncrement, PreDecrement, PostIncrement}
 use Rattle.c_tree.specs.declared.expression.StepOp.TheVariants.{PostDecrement}
 use Rattle.c_tree.specs.declared.types.IntegerType.{IntegerType}
-use Rattle.c_tree.specs.declared.types.IntegerType.TheVariants.{Char, Short, Int}
+use Rattle.c_tree.specs.declared.types.IntegerType.TheVariants.{Char, Short, Int, UnsignedInt}
 use Rattle.c_tree.specs.declared.types.ValueType.{ValueType}
 use Rattle.c_tree.specs.declared.types.ValueType.TheVariants.{Void, Integer, Pointer}
-use Rattle.c_tree.specs.Operators.{step_op}
+use Rattle.c_tree.specs.Operators.{step_op, step_type}
 use Rattle.c_tree.specs.Program.{int}
 use Rattle.c_tree.specs.WellTyped.{CanUpdate, IsScalar}
 use Rattle.flow_graph.specs.declared.op.Op.TheVariants as op
@@ -70,7 +70,8 @@ module _ (c : Context) (D : List ℕ) (low-known : (v : ℕ) → IsIn v D → v 
         let one = temporary c (suc level) ForNumber in
         let S2 = one ∷ old ∷ k.T in
         let last = step_value c operator (block + to.blocks) level w t in
-        let ops = computing c level (step_op operator) new old one
+        let within = step_type operator (Integer t) in
+        let ops = computing c level within (step_op operator) new old one
         ++ (Emit (op.Store (bits_of t) at.array at.number new) ∷ last) in
         let lines = Emit (op.Load (bits_of t) old at.array at.number) ∷ Emit (op.Const one (pos 1)) ∷ ops in
         let T = reached c level w (Integer t) k.T in
@@ -86,7 +87,7 @@ module _ (c : Context) (D : List ℕ) (low-known : (v : ℕ) → IsIn v D → v 
               (writes c B (op.Const one (pos 1)) one (old ∷ k.T) T ops (refl, refl, refl) refl (λ v is. absurd is)
               (last-less c B S2 ops (reached c level w (Integer t) S2) T
               (reached-more c D low-known level w (Integer t) k.T S2 (λ v is. inr (inr is)))
-              (stores c D low-known B level (step_op operator) t w one at S2 last (inr (inl refl)) (inl refl)
+              (stores c D low-known B level within (step_op operator) t w one at S2 last (inr (inl refl)) (inl refl)
               (inr (inr k.array)) (inr (inr k.number)) (free level S k.T k.good)
               (step-flows B operator (block + to.blocks) level w t (new ∷ S2) (inr (inr (inl refl))) (inl refl)
               (goes-more c B w k.T (new ∷ S2) (λ v is. inr (inr (inr is))) g)))));
@@ -185,6 +186,7 @@ module _ (c : Context) (D : List ℕ) (low-known : (v : ℕ) → IsIn v D → v 
       own-none (Integer Char) k = refl
       own-none (Integer Short) k = refl
       own-none (Integer Int) k = refl
+      own-none (Integer UnsignedInt) k = refl
       own-none (Pointer t) k = refl
   step-part of operator (AtObject o) scalar (t, e) =
       subst (λ (s : ValueType). Live (step_part c s operator (AtObject o))) e

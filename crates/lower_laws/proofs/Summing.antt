@@ -9,11 +9,12 @@ use Rattle.pcc_base.specs.Outcome.{ArrayName}
 use Rattle.c_tree.specs.declared.expression.BinaryOp.{BinaryOp}
 use Rattle.c_tree.specs.declared.expression.BinaryOp.TheVariants.{Add, Subtract}
 use Rattle.c_tree.specs.declared.types.IntegerType.{IntegerType}
-use Rattle.c_tree.specs.declared.types.IntegerType.TheVariants.{Char, Short, Int}
+use Rattle.c_tree.specs.declared.types.IntegerType.TheVariants.{Char, Short, Int, UnsignedInt}
 use Rattle.c_tree.specs.declared.types.ValueType.{ValueType}
 use Rattle.c_tree.specs.declared.types.ValueType.TheVariants.{Integer, Pointer}
 use Rattle.c_tree.specs.Evaluation.{evaluate}
-use Rattle.c_tree.specs.Program.{Local, Function}
+use Rattle.c_tree.specs.Operators.{working_type}
+use Rattle.c_tree.specs.Program.{Local, Function, value_type}
 use Rattle.c_tree.specs.Store as source
 use Rattle.c_tree.specs.Store.{Gives, Held, HoldsNumber, HoldsPointer}
 use Rattle.c_tree.specs.WellTyped.{MovesPointer}
@@ -52,6 +53,7 @@ one-wide : (u : IntegerType) → length (type_widths (Integer u)) ≡ 1
 one-wide Char = refl
 one-wide Short = refl
 one-wide Int = refl
+one-wide UnsignedInt = refl
 
 -- a pointer's variables don't begin where those of a number do
 kinds-apart : (ls : List Local) (k j : ℕ) (l m : Local) → slice_get ls k ≡ Some l → slice_get ls j ≡ Some m
@@ -222,26 +224,26 @@ module _ (S : Site) (site : IsSite S) (made_by : ℕ → ℕ → ℕ → Op) (f 
 -- ---- the operators
 
 add-applies : (S : Site) (site : IsSite S) (t u : IntegerType) → Applies S (Pointer t) Add (Pointer t) (Integer u)
-add-applies S site t u older block level wanted before x y (HoldsPointer array index) (HoldsNumber m) z i stands room
+add-applies S site t u within older block level wanted before x y (HoldsPointer array index) (HoldsNumber m) z i stands room
     may b px py holds holds' is is' =
     moves-fit S site op.Add (λ p q. int_wrap w32 (p +ℤ q)) (λ d p q. (refl, refl, refl)) (λ program v d p q. refl) older
     t u level level (suc level) before z i b.function b.shows room array index m x y holds is holds' px py block wanted
     stands may
-add-applies S site t u older block level wanted before x y (HoldsNumber n) v z i stands room may b px py holds holds' is
+add-applies S site t u within older block level wanted before x y (HoldsNumber n) v z i stands room may b px py holds holds' is
     is' = absurd is
-add-applies S site t u older block level wanted before x y (HoldsPointer array index) (HoldsPointer other j) z i stands
+add-applies S site t u within older block level wanted before x y (HoldsPointer array index) (HoldsPointer other j) z i stands
     room may b px py holds holds' is is' = absurd is'
 
 subtract-applies : (S : Site) (site : IsSite S) (t u : IntegerType)
     → Applies S (Pointer t) Subtract (Pointer t) (Integer u)
-subtract-applies S site t u older block level wanted before x y (HoldsPointer array index) (HoldsNumber m) z i stands
+subtract-applies S site t u within older block level wanted before x y (HoldsPointer array index) (HoldsNumber m) z i stands
     room may b px py holds holds' is is' =
     moves-fit S site op.Sub (λ p q. int_wrap w32 (p -ℤ q)) (λ d p q. (refl, refl, refl)) (λ program v d p q. refl) older
     t u level level (suc level) before z i b.function b.shows room array index m x y holds is holds' px py block wanted
     stands may
-subtract-applies S site t u older block level wanted before x y (HoldsNumber n) v z i stands room may b px py holds
+subtract-applies S site t u within older block level wanted before x y (HoldsNumber n) v z i stands room may b px py holds
     holds' is is' = absurd is
-subtract-applies S site t u older block level wanted before x y (HoldsPointer array index) (HoldsPointer other j) z i
+subtract-applies S site t u within older block level wanted before x y (HoldsPointer array index) (HoldsPointer other j) z i
     stands room may b px py holds holds' is is' = absurd is'
 
 pub moves-apply : (S : Site) (site : IsSite S) (operator : BinaryOp) (t u : IntegerType) → MovesPointer operator
@@ -253,24 +255,24 @@ moves-apply S site _ t u moves = absurd moves
 -- the number first
 pub turned-applies : (S : Site) (site : IsSite S) (t u : IntegerType)
     → Applies S (Pointer t) Add (Integer u) (Pointer t)
-turned-applies S site t u older block level wanted before x y (HoldsNumber m) (HoldsPointer array index) z i stands room
+turned-applies S site t u within older block level wanted before x y (HoldsNumber m) (HoldsPointer array index) z i stands room
     may b px py holds holds' is is' =
     moves-fit S site op.Add (λ p q. int_wrap w32 (p +ℤ q)) (λ d p q. (refl, refl, refl)) (λ program v d p q. refl) older
     t u level (suc level) level before z i b.function b.shows room array index m y x holds' is' holds py px block wanted
     stands may
-turned-applies S site t u older block level wanted before x y (HoldsPointer array index) v z i stands room may b px py
+turned-applies S site t u within older block level wanted before x y (HoldsPointer array index) v z i stands room may b px py
     holds holds' is is' = absurd is
-turned-applies S site t u older block level wanted before x y (HoldsNumber m) (HoldsNumber n) z i stands room may b px
+turned-applies S site t u within older block level wanted before x y (HoldsNumber m) (HoldsNumber n) z i stands room may b px
     py holds holds' is is' = absurd is'
 
 pub sums-lower : SumsLower
 sums-lower S site operator moves a b t la of u lb of' =
-    operator-lowers S (Pointer t) operator (part_of (context_of S) a) (part_of (context_of S) b) (evaluate S.calls a)
+    operator-lowers S (Pointer t) (working_type operator (value_type a) (value_type b)) operator (part_of (context_of S) a) (part_of (context_of S) b) (evaluate S.calls a)
     (evaluate S.calls b) (Pointer t) (Integer u) la of lb of' (pointer-not-void t) (integer-not-void u)
     (turns-fall S site a) (turns-fall S site b) (moves-apply S site operator t u moves)
 
 pub turned-sums : TurnedSumsLower
 turned-sums S site a b t u la of lb of' =
-    operator-lowers S (Pointer t) Add (part_of (context_of S) a) (part_of (context_of S) b) (evaluate S.calls a)
+    operator-lowers S (Pointer t) (working_type Add (value_type a) (value_type b)) Add (part_of (context_of S) a) (part_of (context_of S) b) (evaluate S.calls a)
     (evaluate S.calls b) (Integer u) (Pointer t) la of lb of' (integer-not-void u) (pointer-not-void t)
     (turns-fall S site a) (turns-fall S site b) (turned-applies S site t u)

@@ -7,6 +7,7 @@ use Rattle.std.proofs.lemmas.List.Elements.{All-cons, All-head, All-nil, All-tai
 use Rattle.pcc_base.specs.Outcome.{ArrayName, Listing}
 use Rattle.c_eval_laws.specs.Laws.{within}
 use Rattle.c_tree.specs.declared.types.IntegerType.{IntegerType}
+use Rattle.c_tree.specs.declared.types.IntegerType.TheVariants.{Int}
 use Rattle.c_tree.specs.declared.types.ValueType.{ValueType}
 use Rattle.c_tree.specs.declared.types.ValueType.TheVariants.{Void, Integer, Pointer}
 use Rattle.c_tree.specs.declared.expression.BinaryOp.TheVariants.{Add}
@@ -14,7 +15,7 @@ use Rattle.c_tree.specs.Evaluation.{Calls, Falls, Setting, declare, declare_all,
 use Rattle.c_tree.specs.Evaluation.{evaluated_if_any, execute, execute_from, fill, initialise, initialise_local, locate}
 use Rattle.c_tree.specs.Evaluation.{own_array, returned, run_first, switched, tested, tested_if_any, type_at, type_of}
 use Rattle.c_tree.specs.Evaluation.{zeroed}
-use Rattle.c_tree.specs.Operators.{binary_value, is_true, step_op}
+use Rattle.c_tree.specs.Operators.{binary_value, is_true, step_op, step_type, working_type}
 use Rattle.c_tree.specs.Program.{value_type, Expression, Constant, Start, Read, Address, Unary, Binary, And, Or}
 use Rattle.c_tree.specs.Program.{Conditional, Cast, Assign, Update, Step, Comma, Call, Putchar, Getchar, Exit, Place}
 use Rattle.c_tree.specs.Program.{LocalPlace, StaticPlace, Target, Element, Arguments, NoMore, Argument, Initialiser}
@@ -76,7 +77,8 @@ module _ (p : Program) (f : Function) (calls : Calls) (older : List (List Local)
     expression (Binary of op a b) is =
         then-knows (expression a is.0) (λ x h.
         then-knows (expression b is.1) (λ y h'.
-        computed-knows (binary_value op x y) (binary-kind op (value_type a) (value_type b) of x y is.2 h h')))
+        computed-knows (binary_value (working_type op (value_type a) (value_type b)) op x y)
+        (binary-kind (working_type op (value_type a) (value_type b)) op (value_type a) (value_type b) of x y is.2 h h')))
     expression (And a b) is =
         then-knows (expression a is.0) (λ x h. either-knows (is_true x)
         (then-knows (expression b is.2) (λ y h'. gives-knows tt)) (gives-knows tt))
@@ -96,12 +98,13 @@ module _ (p : Program) (f : Function) (calls : Calls) (older : List (List Local)
         then-knows (place-found place of is.0) (λ found h.
         then-knows (load-knows f.locals older of found h) (λ old h'.
         then-knows (as-safe e (expression e is.1)) (λ v h''.
-        updated-knows f.locals older of op found old v h (safe-kind of old h') h'')))
+        updated-knows f.locals older of (working_type op of (value_type e)) op found old v h (safe-kind of old h') h'')))
     expression (Step of op place) is =
         then-knows (place-found place of is) (λ found h.
         then-knows (load-knows f.locals older of found h) (λ old h'.
         then-knows
-        (updated-knows f.locals older of (step_op op) found old (HoldsNumber (pos 1)) h (safe-kind of old h') tt)
+        (updated-knows f.locals older of (step_type op of) (step_op op) found old (HoldsNumber (pos 1)) h
+        (safe-kind of old h') tt)
         (λ new h''. gives-knows (step-kind op of old new h' h''))))
     expression (Comma a b) is = then-knows (expression a is.0) (λ x h. expression b is.1)
     expression (Call of k arguments) is =
@@ -124,8 +127,8 @@ module _ (p : Program) (f : Function) (calls : Calls) (older : List (List Local)
     place-found (Element element a i) of is =
         then-knows (expression a is.0) (λ x h.
         then-knows (expression i is.1) (λ y h'.
-        then-knows (computed-knows (binary_value Add x y)
-        (binary-kind Add (value_type a) (value_type i) (Pointer element) x y is.2 h h')) (λ v h''.
+        then-knows (computed-knows (binary_value Int Add x y)
+        (binary-kind Int Add (value_type a) (value_type i) (Pointer element) x y is.2 h h')) (λ v h''.
         gives-knows (target-found f.locals of v (subst (λ (t : ValueType). IsInteger t) is.3 tt)))))
 
     place-at : (place : Place) (of : ValueType) → IsElement place → IsPlace p f place of
@@ -138,8 +141,8 @@ module _ (p : Program) (f : Function) (calls : Calls) (older : List (List Local)
     place-at (Element t a i) of element is =
         then-knows (expression a is.0) (λ x h.
         then-knows (expression i is.1) (λ y h'.
-        then-knows (computed-knows (binary_value Add x y)
-        (binary-kind Add (value_type a) (value_type i) (Pointer t) x y is.2 h h')) (λ v h''.
+        then-knows (computed-knows (binary_value Int Add x y)
+        (binary-kind Int Add (value_type a) (value_type i) (Pointer t) x y is.2 h h')) (λ v h''.
         gives-knows (target-at t v h''))))
 
     all-arguments : (ls : List Local) (es : Arguments) → AreArguments p f ls es

@@ -10,6 +10,7 @@ use Rattle.c_eval_laws.proofs.Agreeing.{trees_keep}
 use Rattle.c_eval_laws.specs.Bounds.{state_of}
 use Rattle.c_tree.specs.declared.expression.BinaryOp.TheVariants.{Add}
 use Rattle.c_tree.specs.declared.types.IntegerType.{IntegerType}
+use Rattle.c_tree.specs.declared.types.IntegerType.TheVariants.{Int}
 use Rattle.c_tree.specs.declared.types.ValueType.{ValueType}
 use Rattle.c_tree.specs.declared.types.ValueType.TheVariants.{Integer, Pointer}
 use Rattle.c_tree.specs.Evaluation as evaluation
@@ -52,7 +53,7 @@ use Rattle.lower_laws.specs.PlacesLaws.{TurnedAreAssigned, TurnedAreRead, Turned
 
 -- what is made of the number and the pointer
 abbrev turned : Held → Held → source.State → Evaluated Found
-turned x y z = and_then (computed (binary_value Add x y) z) (λ q w. Gives (evaluation.target_of q) w)
+turned x y z = and_then (computed (binary_value Int Add x y) z) (λ q w. Gives (evaluation.target_of q) w)
 
 module _ (S : Site) (site : IsSite S) (t u : IntegerType) (a b : Part) (run run' : source.State → Evaluated Held)
     (la : Lowers S a run) (of : a.of ≡ Integer u) (lb : Lowers S b run') (of' : b.of ≡ Pointer t)

@@ -12,7 +12,7 @@ use Rattle.c_tree.specs.declared.expression.StepOp.TheVariants.{PostDecrement}
 use Rattle.c_tree.specs.declared.expression.UnaryOp.{UnaryOp}
 use Rattle.c_tree.specs.declared.expression.UnaryOp.TheVariants.{Plus, Minus, Complement, Not}
 use Rattle.c_tree.specs.declared.types.IntegerType.{IntegerType}
-use Rattle.c_tree.specs.declared.types.IntegerType.TheVariants.{Char, Short, Int}
+use Rattle.c_tree.specs.declared.types.IntegerType.TheVariants.{Char, Short, Int, UnsignedInt}
 use Rattle.c_tree.specs.declared.types.ValueType.{ValueType}
 use Rattle.c_tree.specs.declared.types.ValueType.TheVariants.{Void, Integer, Pointer}
 use Rattle.c_tree.specs.Program.{value_type, Expression, Constant, Start, Read, Address, Unary, Binary, And, Or}
@@ -60,12 +60,6 @@ pair-of (Pointer t) Void w e = absurd e
 pair-of (Integer t) Void w e = absurd e
 pair-of Void q w e = absurd e
 
--- the result of an operator on one operand
-pub unary-int : (op : UnaryOp) (v : ValueType) (of : IntegerType) → UnaryGives op v of → of ≡ Int
-unary-int op Void of h = absurd h
-unary-int op (Integer t) of h = h
-unary-int op (Pointer t) of h = h.1
-
 -- ---- what stands in a typed program
 
 at-all : {X : Type 0} (P : X → Type 0) (xs : List X) (k : ℕ) (x : X) → slice_get xs k ≡ Some x → All P xs → P x
@@ -92,6 +86,7 @@ module _ (S : Site) where
   local-type (Integer Char) k = refl
   local-type (Integer Short) k = refl
   local-type (Integer Int) k = refl
+  local-type (Integer UnsignedInt) k = refl
   local-type (Pointer t) k = refl
 
   assigned-type : (of : ValueType) (k : ℕ) (a : Part) → (assigned_local (context_of S) of k a).of ≡ of
@@ -99,6 +94,7 @@ module _ (S : Site) where
   assigned-type (Integer Char) k a = refl
   assigned-type (Integer Short) k a = refl
   assigned-type (Integer Int) k a = refl
+  assigned-type (Integer UnsignedInt) k a = refl
   assigned-type (Pointer t) k a = refl
 
   read-type : (of : ValueType) (place : Place) → IsPlace S.program S.function place of
@@ -119,12 +115,11 @@ module _ (S : Site) where
   address-type t (Target element e) is = refl
   address-type t (Element element a i) is = refl
 
-  unary-type : (of : IntegerType) (op : UnaryOp) (e : Expression) → of ≡ Int
-      → type_in S (Unary of op e) ≡ Integer of
-  unary-type of Plus e is = ap (λ (t : IntegerType). Integer t) (sym is)
-  unary-type of Minus e is = ap (λ (t : IntegerType). Integer t) (sym is)
-  unary-type of Complement e is = ap (λ (t : IntegerType). Integer t) (sym is)
-  unary-type of Not e is = ap (λ (t : IntegerType). Integer t) (sym is)
+  unary-type : (of : IntegerType) (op : UnaryOp) (e : Expression) → type_in S (Unary of op e) ≡ Integer of
+  unary-type of Plus e = refl
+  unary-type of Minus e = refl
+  unary-type of Complement e = refl
+  unary-type of Not e = refl
 
   assign-type : (of : ValueType) (place : Place) (v : Expression) → IsPlace S.program S.function place of
       → type_in S (Assign of place v) ≡ of
@@ -171,7 +166,7 @@ module _ (S : Site) where
   part-type (Start element array) typed = refl
   part-type (Read of place) typed = read-type of place typed
   part-type (Address element place) typed = address-type element place typed.0
-  part-type (Unary of op e) typed = unary-type of op e (unary-int op (value_type e) of typed.1)
+  part-type (Unary of op e) typed = unary-type of op e
   part-type (Binary of op a b) typed = refl
   part-type (And a b) typed = refl
   part-type (Or a b) typed = refl

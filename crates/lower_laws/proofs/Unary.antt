@@ -3,12 +3,13 @@ use Rattle.std.proofs.Common.{◌≡◌, ℕ, ◌+◌, ◌<◌, ◌≤◌, true,
 use Rattle.std.proofs.Common.{None, refl, sym, ap, ◌∙◌, subst, append_assoc, append-nil}
 use Rattle.std.specs.Int.{w32, int_wrap, int_bit_not}
 use Rattle.pcc_base.specs.Outcome.{Visit}
+use Rattle.c_tree.specs.declared.expression.UnaryOp.{UnaryOp}
 use Rattle.c_tree.specs.declared.expression.UnaryOp.TheVariants.{Minus, Complement}
 use Rattle.c_tree.specs.declared.types.IntegerType.{IntegerType}
 use Rattle.c_tree.specs.declared.types.IntegerType.TheVariants.{Int}
 use Rattle.c_tree.specs.declared.types.ValueType.{ValueType}
 use Rattle.c_tree.specs.declared.types.ValueType.TheVariants.{Integer}
-use Rattle.c_tree.specs.Operators.{unary_value}
+use Rattle.c_tree.specs.Operators.{promoted, unary_number, unary_value}
 use Rattle.c_tree.specs.Program.{Function, int}
 use Rattle.c_tree.specs.Store as source
 use Rattle.c_tree.specs.Store.{Evaluated, Gives, Ends, Held, HoldsNumber, HoldsPointer, and_then}
@@ -23,7 +24,7 @@ use Rattle.lower_lines.specs.Expressions.{number_part}
 use Rattle.lower_lines.specs.Following.{Begins, Follows, GivesOf, IsSite, Lowers, MayWant, Site, Stand, behind}
 use Rattle.lower_lines.specs.Following.{context_of, graphs_of, reached}
 use Rattle.lower_lines.specs.Lines.{Line, Emit}
-use Rattle.lower_lines.specs.Parts.{Wanted, Part, made, operand}
+use Rattle.lower_lines.specs.Parts.{Wanted, Part, made, operand, retyped}
 use Rattle.lower_lines.specs.Relation.{IsOf, Keeps}
 use Rattle.lower_lines.specs.Variables.{Spot, levels_of, local_variables}
 use Rattle.lower_lines.proofs.Changes.{kept-none, kept-twice}
@@ -33,6 +34,7 @@ use Rattle.lower_laws.proofs.Going.{Goes, goes-end, goes-then, stand-back, stand
 use Rattle.lower_laws.proofs.Levels.{levels-one, levels-below}
 use Rattle.lower_laws.proofs.Made.{number-made}
 use Rattle.lower_laws.proofs.Operands.{NumberStands, number-operand}
+use Rattle.lower_laws.proofs.Retyped.{promoted-all, retyped-lowers}
 use Rattle.lower_laws.specs.ExpressionsLaws.{ComplementsLower, MinusesLower}
 
 -- Lines that follow behind others, which lead there, follow with them.
@@ -96,7 +98,7 @@ op-typed S active f (Gives v t) all = all v
 op-typed S active f (Ends end t) all = tt
 
 -- an op on a number does what the source's operator does
-pub op-lowers : (S : Site) (site : IsSite S) (made_by : ℕ → ℕ → Op) (f : Held → Held) (fz : ℤ → ℤ) (a : Part)
+op-lowers : (S : Site) (site : IsSite S) (made_by : ℕ → ℕ → Op) (f : Held → Held) (fz : ℤ → ℤ) (a : Part)
     (run : source.State → Evaluated Held) (u : IntegerType) → Lowers S a run → a.of ≡ Integer u → 1 ≤ a.levels
     → ((program : GraphProgram) (v : graph.State) (d x : ℕ) → act program v (made_by d x)
     ≡ one_number program v d x fz)
@@ -122,23 +124,36 @@ op-lowers S site made_by f fz a run u lowers of deep does kind value typed = rec
   stands = λ spot same. absurd (cc);
 }
 
-number-of-unary : (S : Site) (active : List Function) (v : Held) → IsOf S.program active int (unary_value Int Minus v)
-number-of-unary S active (HoldsNumber n) = tt
-number-of-unary S active (HoldsPointer array index) = tt
+-- an operator of which each number is made by an op
+unary-lowers : (S : Site) (site : IsSite S) (operator : UnaryOp) (made_by : ℕ → ℕ → Op) (a : Part)
+    (run : source.State → Evaluated Held) (u : IntegerType) → Lowers S a run → a.of ≡ Integer u → 1 ≤ a.levels
+    → ((program : GraphProgram) (v : graph.State) (d x : ℕ) → act program v (made_by d x)
+    ≡ one_number program v d x (unary_number operator))
+    → ((d x : ℕ) → (is_turn (made_by d x) ≡ false) × (marked (made_by d x) ≡ None) × (is_end (made_by d x) ≡ false))
+    → ((active : List Function) (v : Held) → IsOf S.program active int (unary_value (promoted u) operator v))
+    → Lowers S (retyped (promoted u) (number_part (context_of S) made_by a))
+    (λ s. and_then (run s) (λ v t. Gives (unary_value (promoted u) operator v) t))
+unary-lowers S site operator made_by a run u lowers of deep does kind typed =
+    retyped-lowers S (number_part (context_of S) made_by a) _ Int (promoted u) refl refl
+    (op-lowers S site made_by (unary_value (promoted u) operator) (unary_number operator) a run u lowers of deep does
+    kind (λ n. ap HoldsNumber (promoted-all u (unary_number operator n))) typed)
 
-number-of-complement : (S : Site) (active : List Function) (v : Held)
-    → IsOf S.program active int (unary_value Int Complement v)
-number-of-complement S active (HoldsNumber n) = tt
-number-of-complement S active (HoldsPointer array index) = tt
+number-of-unary : (S : Site) (active : List Function) (w : IntegerType) (v : Held)
+    → IsOf S.program active int (unary_value w Minus v)
+number-of-unary S active w (HoldsNumber n) = tt
+number-of-unary S active w (HoldsPointer array index) = tt
+
+number-of-complement : (S : Site) (active : List Function) (w : IntegerType) (v : Held)
+    → IsOf S.program active int (unary_value w Complement v)
+number-of-complement S active w (HoldsNumber n) = tt
+number-of-complement S active w (HoldsPointer array index) = tt
 
 pub minuses-lower : MinusesLower
 minuses-lower S site e u lowers of =
-    op-lowers S site op.Neg (unary_value Int Minus) (λ n. int_wrap w32 (neg_ℤ n)) _ _ u lowers of
-    (levels-one (context_of S) e)
-    (λ program v d x. refl) (λ d x. (refl, refl, refl)) (λ n. refl) (number-of-unary S)
+    unary-lowers S site Minus op.Neg _ _ u lowers of (levels-one (context_of S) e) (λ program v d x. refl)
+    (λ d x. (refl, refl, refl)) (λ active v. number-of-unary S active (promoted u) v)
 
 pub complements-lower : ComplementsLower
 complements-lower S site e u lowers of =
-    op-lowers S site op.Not (unary_value Int Complement) (int_bit_not w32) _ _ u lowers of
-    (levels-one (context_of S) e)
-    (λ program v d x. refl) (λ d x. (refl, refl, refl)) (λ n. refl) (number-of-complement S)
+    unary-lowers S site Complement op.Not _ _ u lowers of (levels-one (context_of S) e) (λ program v d x. refl)
+    (λ d x. (refl, refl, refl)) (λ active v. number-of-complement S active (promoted u) v)

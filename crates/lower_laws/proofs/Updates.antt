@@ -10,8 +10,9 @@ use Rattle.c_tree.specs.declared.types.IntegerType.{IntegerType}
 use Rattle.c_tree.specs.declared.types.IntegerType.TheVariants.{Int}
 use Rattle.c_tree.specs.declared.types.ValueType.{ValueType}
 use Rattle.c_tree.specs.declared.types.ValueType.TheVariants.{Void, Integer, Pointer}
+use Rattle.c_tree.specs.Operators.{working_type}
 use Rattle.c_tree.specs.Program.{int}
-use Rattle.c_tree.specs.WellTyped.{BinaryGives, CanAssign, CanUpdate}
+use Rattle.c_tree.specs.WellTyped.{CanAssign, CanUpdate}
 use Rattle.flow_graph.specs.declared.op.Op.TheVariants as op
 use Rattle.flow_graph.specs.Graphs.{IsIn}
 use Rattle.lower_lines.specs.Expressions.{Addressed, AtAddress, AtLocal, AtObject, Located, assign_part, local_part}
@@ -23,6 +24,7 @@ use Rattle.lower_lines.specs.Parts.{Wanted, Own, Part, bits_of, converted_lines}
 use Rattle.lower_lines.specs.Parts.{operand}
 use Rattle.lower_lines.specs.Variables.{Context, Spot, local_spot, local_variables}
 use Rattle.lower_lines.proofs.Constructs.{local-type}
+use Rattle.lower_laws.proofs.Pieces.{LinesGive}
 use Rattle.lower_laws.proofs.FitsCompound.{Becomes}
 use Rattle.lower_laws.specs.Flows.{Within}
 use Rattle.lower_laws.proofs.Addresses.{LiveAddress, address-then, assigned-element, assigned-local}
@@ -51,21 +53,21 @@ module _ (c : Context) (D : List ℕ) (low-known : (v : ℕ) → IsIn v D → v 
   three-in S x y z h k m v (inr is) = two-in S y z k m v is
 
   -- the new value, its store, and what is done with it behind
-  pub stores : (B : ℕ → List ℕ) (level : ℕ) (operator : BinaryOp) (t : IntegerType) (w : Wanted) (y : ℕ) (at : Spot)
-      (S : List ℕ) (rest : List Line) → IsIn (old_value c level) S → IsIn y S → IsIn at.array S → IsIn at.number S
+  pub stores : (B : ℕ → List ℕ) (level : ℕ) (within : IntegerType) (operator : BinaryOp) (t : IntegerType) (w : Wanted)
+      (y : ℕ) (at : Spot) (S : List ℕ) (rest : List Line) → IsIn (old_value c level) S → IsIn y S → IsIn at.array S → IsIn at.number S
       → AllFree c level S
       → F c B (new_value c level ∷ S) rest (reached c level w (Integer t) (new_value c level ∷ S))
-      → F c B S (computing c level operator (new_value c level) (old_value c level) y
+      → F c B S (computing c level within operator (new_value c level) (old_value c level) y
       ++ (Emit (op.Store (bits_of t) at.array at.number (new_value c level)) ∷ rest)) (reached c level w (Integer t) S)
-  stores B level operator t w y at S rest old h h' h2 free f =
+  stores B level within operator t w y at S rest old h h' h2 free f =
       let new = new_value c level in
       let T = reached c level w (Integer t) (new ∷ S) in
-      let made = computing c level operator new (old_value c level) y in
+      let made = computing c level within operator new (old_value c level) y in
       let lines = Emit (op.Store (bits_of t) at.array at.number new) ∷ rest in
       last-less c B S (made ++ lines) T (reached c level w (Integer t) S)
       (reached-more c D low-known level w (Integer t) S (new ∷ S) (λ v is. inr is))
       (flows-then c B S made lines (new ∷ S) T
-      (computing-flows c B level operator new (old_value c level) y S old h free
+      (computing-flows c B level within operator new (old_value c level) y S old h free
       (above-free c D low-known level new (omega arith)))
       (keeps c B (op.Store (bits_of t) at.array at.number new) (new ∷ S) T rest (refl, refl, refl)
       (three-in (new ∷ S) at.array at.number new (inr h') (inr h2) (inl refl)) f))
@@ -82,6 +84,7 @@ module _ (c : Context) (D : List ℕ) (low-known : (v : ℕ) → IsIn v D → v 
       → a.of ≡ Integer u → LiveAddress c D low-known to → Live a → Live (updated_element c t operator to a)
   updated-element t operator to a u e h ha =
       let x = operand c true a in
+      let within = working_type operator (Integer t) a.of in
       record {
         settles = λ block level w S ready low.
             let k = h.comes a.simple block level S ready in
@@ -93,7 +96,7 @@ module _ (c : Context) (D : List ℕ) (low-known : (v : ℕ) → IsIn v D → v 
             (ready-at c D low-known level S S1 ready (λ v is. inr (k.more v is)) (old-good level S k.T k.good)) in
             let n = (x.spot (suc level)).number in
             let conv = converted_lines c (block + to.blocks + x.blocks) level w t new in
-            let lines = computing c level operator new old n
+            let lines = computing c level within operator new old n
             ++ (Emit (op.Store (bits_of t) at.array at.number new) ∷ conv) in
             let second = x.lines (block + to.blocks) (suc level) in
             let T = reached c level w (Integer t) m.T in
@@ -106,7 +109,7 @@ module _ (c : Context) (D : List ℕ) (low-known : (v : ℕ) → IsIn v D → v 
               sets = [];
               size = refl;
               flows = λ B b g.
-                  stores B level operator t w n at m.T conv (m.more old (inl refl))
+                  stores B level within operator t w n at m.T conv (m.more old (inl refl))
                   (number-in c D low-known a x u (block + to.blocks) (suc level) S1 e m)
                   (m.more at.array (inr k.array)) (m.more at.number (inr k.number))
                   (still level S S1 m.T (old-good level S k.T k.good) m.new)
@@ -166,7 +169,7 @@ module _ (c : Context) (D : List ℕ) (low-known : (v : ℕ) → IsIn v D → v 
   update-part of operator (AtLocal k) a h can ha = assigned-local c D low-known of k h
       (binary_part c (result_type of) operator (local_part c of k) a) (result-becomes of)
       (both-part c D low-known (result_type of) operator (local_part c of k) a
-      (subst (λ (s : ValueType). BinaryGives operator s a.of (result_type of)) (sym (local-type c of k))
+      (subst (λ (s : ValueType). LinesGive operator s a.of (result_type of)) (sym (local-type c of k))
       (update-gives operator of a.of can)) (local-part c D low-known of k h) ha)
   update-part of operator (AtObject o) a (t, e) can ha =
       subst (λ (s : ValueType). Live (update_part c s operator (AtObject o) a)) e

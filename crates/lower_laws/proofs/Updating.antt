@@ -12,8 +12,8 @@ use Rattle.c_tree.specs.declared.types.IntegerType.{IntegerType}
 use Rattle.c_tree.specs.declared.types.IntegerType.TheVariants.{Int}
 use Rattle.c_tree.specs.declared.types.ValueType.TheVariants.{Integer}
 use Rattle.c_tree.specs.Evaluation.{InObject, element_read, evaluate, load, store, updated}
-use Rattle.c_tree.specs.Operators.{Computed, Computes, Traps, binary_value, step_op}
-use Rattle.c_tree.specs.Program.{Function, Read, StaticObject, StaticPlace, int}
+use Rattle.c_tree.specs.Operators.{binary_value, numbers_type, step_op, step_type}
+use Rattle.c_tree.specs.Program.{Function, Read, StaticObject, StaticPlace, Update, int, value_type}
 use Rattle.c_tree.specs.Evaluation.{computed}
 use Rattle.c_tree.specs.Store as source
 use Rattle.c_tree.specs.Store.{Evaluated, Gives, Ends, Held, HoldsNumber, and_then, array_named, in_type}
@@ -27,12 +27,12 @@ use Rattle.lower_lines.specs.Parts.{Wanted, Dropped, Own, ToLocal, Tests, Part, 
 use Rattle.lower_lines.specs.Variables.{levels_of, local_variables, own}
 use Rattle.lower_lines.proofs.Changes.{kept-below}
 use Rattle.lower_laws.proofs.Atoms.{constants-lower}
-use Rattle.lower_laws.proofs.Binary.{Fits, after_both, binary-lowers, compound-lowers, turns-fall}
+use Rattle.lower_laws.proofs.Binary.{Fits, after_both, binary-lowers, compound-lowers, turns-fall, works-in}
 use Rattle.lower_laws.proofs.Converting.{begins-again, lowers-fit}
 use Rattle.lower_laws.proofs.Going.{stand-back, stand-front}
 use Rattle.lower_laws.proofs.Levels.{max-behind, first-room, second-room}
 use Rattle.lower_laws.proofs.Pairs.{own-stays}
-use Rattle.lower_laws.proofs.Stepping.{delivered-fits, lowers-same, then-then}
+use Rattle.lower_laws.proofs.Stepping.{delivered-fits, lowers-same, operator-falls, then-then}
 use Rattle.lower_laws.proofs.Unary.{follows-behind}
 use Rattle.lower_laws.proofs.Working.{apart-scratch}
 use Rattle.lower_laws.proofs.PlacesReading.{object-read, objects-read}
@@ -42,28 +42,20 @@ use Rattle.lower_laws.specs.PlacesLaws.{ObjectsAreStepped, ObjectsAreUpdated}
 -- ---- evaluations one after another
 
 -- both operands are evaluated, and then what they give is used
-both-then : (operator : BinaryOp) (r : Evaluated Held) (run : source.State → Evaluated Held)
+both-then : (within : IntegerType) (operator : BinaryOp) (r : Evaluated Held) (run : source.State → Evaluated Held)
     (g : Held → source.State → Evaluated Held)
-    → and_then (and_then r (λ x t. and_then (run t) (λ y u. computed (binary_value operator x y) u))) g
-    ≡ and_then r (λ x t. and_then (run t) (λ y u. and_then (computed (binary_value operator x y) u) g))
-both-then operator (Gives x t) run g = then-then (run t) (λ y u. computed (binary_value operator x y) u) g
-both-then operator (Ends end t) run g = refl
+    → and_then (and_then r (λ x t. and_then (run t) (λ y u. computed (binary_value within operator x y) u))) g
+    ≡ and_then r (λ x t. and_then (run t) (λ y u. and_then (computed (binary_value within operator x y) u) g))
+both-then within operator (Gives x t) run g = then-then (run t) (λ y u. computed (binary_value within operator x y) u) g
+both-then within operator (Ends end t) run g = refl
 
-computed-falls : (c : Computed) (t : source.State) (n : ℕ) → t.turns ≤ n → (state_of (computed c t)).turns ≤ n
-computed-falls (Computes v) t n h = h
-computed-falls (Traps trap) t n h = h
-
-second-falls : (operator : BinaryOp) (x : Held) (r : Evaluated Held) (n : ℕ) → (state_of r).turns ≤ n
-    → (state_of (and_then r (λ y u. computed (binary_value operator x y) u))).turns ≤ n
-second-falls operator x (Gives y u) n h = computed-falls (binary_value operator x y) u n h
-second-falls operator x (Ends end u) n h = h
-
-both-falls : (operator : BinaryOp) (r : Evaluated Held) (run : source.State → Evaluated Held) (n : ℕ)
+both-falls : (within : IntegerType) (operator : BinaryOp) (r : Evaluated Held)
+    (run : source.State → Evaluated Held) (n : ℕ)
     → ((s : source.State) → (state_of (run s)).turns ≤ s.turns) → (state_of r).turns ≤ n
-    → (state_of (and_then r (λ x t. and_then (run t) (λ y u. computed (binary_value operator x y) u)))).turns ≤ n
-both-falls operator (Gives x t) run n falls h =
-    second-falls operator x (run t) n (let k = falls t in omega (arith, h, k))
-both-falls operator (Ends end t) run n falls h = h
+    → (state_of (and_then r (λ x t. and_then (run t) (λ y u. computed (binary_value within operator x y) u)))).turns ≤ n
+both-falls within operator (Gives x t) run n falls h =
+    operator-falls within operator x (run t) n (let k = falls t in omega (arith, h, k))
+both-falls within operator (Ends end t) run n falls h = h
 
 keep-new : (r : Evaluated Held) → r ≡ and_then r (λ v t. Gives v t)
 keep-new (Gives v t) = refl
@@ -85,25 +77,26 @@ module _ (S : Site) (site : IsSite S) (k : ℕ) (o : StaticObject) (e : slice_ge
   name-falls : (s : source.State) → (state_of (load (InObject k) s)).turns ≤ s.turns
   name-falls s = turns-fall S site (Read (Integer t) (StaticPlace k)) s
 
-  -- what an assignment with an operator does
-  abbrev updating : BinaryOp → (source.State → Evaluated Held) → source.State → Evaluated Held
-  updating operator run s = and_then (load (InObject k) s) (λ old v. and_then (run v) (updated (Integer t) operator
-      (InObject k) old))
+  -- what an assignment does with an operator that works in a type
+  abbrev updating : IntegerType → BinaryOp → (source.State → Evaluated Held) → source.State → Evaluated Held
+  updating within operator run s = and_then (load (InObject k) s) (λ old v. and_then (run v)
+      (updated (Integer t) within operator (InObject k) old))
 
   abbrev updating_part : BinaryOp → Part → Part
   updating_part operator a = assigned_object (context_of S) t k (binary_part (context_of S) int operator name a)
 
   update-lowers : (operator : BinaryOp) (a : Part) (run : source.State → Evaluated Held) (u : IntegerType)
       → Lowers S a run → a.of ≡ Integer u → ((s : source.State) → (state_of (run s)).turns ≤ s.turns)
-      → Lowers S (updating_part operator a) (updating operator run)
+      → Lowers S (updating_part operator a) (updating (numbers_type operator t u) operator run)
   update-lowers operator a run u lowers of falls =
       let reads : source.State → Evaluated Held = λ s. load (InObject k) s in
       let stores : Held → source.State → Evaluated Held = λ v w. store (InObject k) (in_type (Integer t) v) w in
-      lowers-same S (updating_part operator a) (λ s. and_then (after_both operator reads run s) stores)
-      (updating operator run) (λ s. both-then operator (load (InObject k) s) run stores)
-      (object-assigned S site k o e one (binary_part (context_of S) int operator name a) (after_both operator reads run)
-      Int (binary-lowers S site operator name a reads run t u name-lowers refl lowers of name-falls) refl
-      (λ s. both-falls operator (load (InObject k) s) run s.turns falls (name-falls s))
+      let within : IntegerType = numbers_type operator t u in
+      lowers-same S (updating_part operator a) (λ s. and_then (after_both within operator reads run s) stores)
+      (updating within operator run) (λ s. both-then within operator (load (InObject k) s) run stores)
+      (object-assigned S site k o e one (binary_part (context_of S) int operator name a)
+      (after_both within operator reads run) Int (binary-lowers S site operator name a reads run t u name-lowers refl lowers of name-falls) refl
+      (λ s. both-falls within operator (load (InObject k) s) run s.turns falls (name-falls s))
       (max-behind name.levels a.levels))
 
   -- ---- `++` and `--`
@@ -112,13 +105,17 @@ module _ (S : Site) (site : IsSite S) (k : ℕ) (o : StaticObject) (e : slice_ge
     abbrev update : Part
     update = updating_part (step_op operator) (one_part (context_of S))
 
-    update-does : Lowers S update (updating (step_op operator) (λ s. Gives (HoldsNumber (pos 1)) s))
+    abbrev stepped : source.State → Evaluated Held
+    stepped = updating (step_type operator (Integer t)) (step_op operator) (λ s. Gives (HoldsNumber (pos 1)) s)
+
+    update-does : Lowers S update stepped
     update-does = update-lowers (step_op operator) (one_part (context_of S)) (λ s. Gives (HoldsNumber (pos 1)) s) Int
         (constants-lower S site Int (pos 1)) refl (λ s. omega arith)
 
     -- the new value, where the old one is known
     abbrev new_given : Held → source.State → Evaluated Held
-    new_given old s = updated (Integer t) (step_op operator) (InObject k) old (HoldsNumber (pos 1)) s
+    new_given old s = updated (Integer t) (step_type operator (Integer t)) (step_op operator) (InObject k) old
+        (HoldsNumber (pos 1)) s
 
     abbrev stepping : (Held → Held → Held) → source.State → Evaluated Held
     stepping result s = and_then (load (InObject k) s) (λ old v. and_then (new_given old v) (λ new u. Gives
@@ -130,8 +127,8 @@ module _ (S : Site) (site : IsSite S) (k : ℕ) (o : StaticObject) (e : slice_ge
     new-alone (Ends end v) = refl
 
     pub before-lowers : Lowers S update (stepping (λ old new. new))
-    before-lowers = lowers-same S update (updating (step_op operator) (λ s. Gives (HoldsNumber (pos 1)) s))
-        (stepping (λ old new. new)) (λ s. new-alone (load (InObject k) s)) update-does
+    before-lowers = lowers-same S update stepped (stepping (λ old new. new)) (λ s. new-alone (load (InObject k) s))
+        update-does
 
     -- the value is the old one, which nobody wants
     dropped-old : (older : List Function) (before lines : List Line) (level : ℕ) (s : source.State) (g : graph.State)
@@ -186,8 +183,7 @@ module _ (S : Site) (site : IsSite S) (k : ℕ) (o : StaticObject) (e : slice_ge
     new-fits older block level wanted before s g n given stands room may b =
         subst (λ (r : Evaluated Held). Fits S (S.function ∷ older) before (update.lines block level wanted) level wanted
         (Integer t) s g (and_then r (λ old v. new_given old v))) given
-        (lowers-fit S update (updating (step_op operator) (λ v. Gives (HoldsNumber (pos 1)) v)) update-does
-        (S.function ∷ older) block level wanted before s g stands room may b)
+        (lowers-fit S update stepped update-does (S.function ∷ older) block level wanted before s g stands room may b)
 
     by-after : (older : List Function) (block level : ℕ) (wanted : Wanted) (before : List Line) (s : source.State)
         (g : graph.State) (n : ℤ) → load (InObject k) s ≡ Gives (HoldsNumber n) s
@@ -278,9 +274,13 @@ module _ (S : Site) (site : IsSite S) (k : ℕ) (o : StaticObject) (e : slice_ge
 -- ---- the laws
 
 pub objects-updated : ObjectsAreUpdated
-objects-updated S site operator k o e one value u lowers of =
-    update-lowers S site k o e one operator (part_of (context_of S) value) (evaluate S.calls value) u lowers of
-    (turns-fall S site value)
+objects-updated S site operator k o e one value u typed lowers of =
+    subst (λ (w : IntegerType). Lowers S
+    (part_of (context_of S) (Update (Integer o.element) operator (StaticPlace k) value))
+    (updating S site k o e one w operator (evaluate S.calls value)))
+    (works-in operator (Integer o.element) (value_type value) o.element u refl typed)
+    (update-lowers S site k o e one operator (part_of (context_of S) value) (evaluate S.calls value) u lowers of
+    (turns-fall S site value))
 
 pub objects-stepped : ObjectsAreStepped
 objects-stepped S site PreIncrement k o e one = before-lowers S site k o e one PreIncrement

@@ -2,6 +2,7 @@
 use Rattle.std.proofs.Common.{◌≡◌, Bool, true, false, ℤ, pos, List, Some, None, sym, subst}
 use Rattle.std.specs.Prelude.{if◌then◌else◌, slice_get}
 use Rattle.pcc_base.specs.Outcome.{Array, ArrayName, IsKnown}
+use Rattle.pcc_base.specs.declared.run.Trap.{Trap}
 use Rattle.c_tree.specs.declared.expression.ArrayRef.{ArrayRef}
 use Rattle.c_tree.specs.declared.expression.ArrayRef.TheVariants as refs
 use Rattle.c_tree.specs.declared.expression.BinaryOp.{BinaryOp}
@@ -15,13 +16,14 @@ use Rattle.c_tree.specs.declared.expression.StepOp.TheVariants.{PostDecrement}
 use Rattle.c_tree.specs.declared.expression.UnaryOp.{UnaryOp}
 use Rattle.c_tree.specs.declared.expression.UnaryOp.TheVariants.{Not}
 use Rattle.c_tree.specs.declared.types.IntegerType.{IntegerType}
+use Rattle.c_tree.specs.declared.types.IntegerType.TheVariants.{Int}
 use Rattle.c_tree.specs.declared.types.ValueType.{ValueType}
 use Rattle.c_tree.specs.declared.types.ValueType.TheVariants.{Void, Integer, Pointer}
 use Rattle.c_tree.specs.Evaluation.{Left, Falls, Breaks, Continues, Returns, Found, InLocal, InObject, AtIndex}
 use Rattle.c_tree.specs.Evaluation.{address_of, target_of, value_left}
-use Rattle.c_tree.specs.Operators.{Computed, Computes, Traps, binary_value, no_quotient}
-use Rattle.c_tree.specs.Operators.{numbers_value, pointer_number_value, pointers_value, step_result, unary_value}
-use Rattle.c_tree.specs.Operators.{same_array}
+use Rattle.c_tree.specs.Operators.{Computed, Computes, Traps, binary_value, is_signed, no_quotient, number}
+use Rattle.c_tree.specs.Operators.{no_unsigned_quotient, numbers_result, numbers_type, numbers_value}
+use Rattle.c_tree.specs.Operators.{pointer_number_value, pointers_value, same_array, step_result, unary_value}
 use Rattle.c_tree.specs.Program.{Local, int}
 use Rattle.c_tree.specs.Store.{Held, HoldsNumber, HoldsPointer, State, array_of, in_type, zero_of}
 use Rattle.c_tree.specs.WellTyped.{BinaryGives, IsInteger, IsResult, NumberPointerGives, PointerNumberGives}
@@ -83,23 +85,31 @@ either-computed : (K : Held → Type 0) (test : Bool) (c d : Computed) → Compu
 either-computed K true c d h h' = h
 either-computed K false c d h h' = h'
 
-numbers-kind : (op : BinaryOp) (a b : ℤ) → Computing (HasKind int) (numbers_value op a b)
-numbers-kind Multiply a b = tt
-numbers-kind Divide a b = either-computed (HasKind int) (no_quotient a b) _ _ tt tt
-numbers-kind Remainder a b = either-computed (HasKind int) (no_quotient a b) _ _ tt tt
-numbers-kind Add a b = tt
-numbers-kind Subtract a b = tt
-numbers-kind ShiftLeft a b = tt
-numbers-kind ShiftRight a b = tt
-numbers-kind Less a b = tt
-numbers-kind Greater a b = tt
-numbers-kind LessOrEqual a b = tt
-numbers-kind GreaterOrEqual a b = tt
-numbers-kind Equal a b = tt
-numbers-kind NotEqual a b = tt
-numbers-kind BitAnd a b = tt
-numbers-kind BitXor a b = tt
-numbers-kind BitOr a b = tt
+-- with signs or without
+divided-kind : (of : IntegerType) (signed first second : Bool) (trap trap' : Trap) (n n' : ℤ)
+    → Computing (HasKind (Integer of))
+    (if signed then (if first then Traps trap else number n) else (if second then Traps trap' else number n'))
+divided-kind of true first second trap trap' n n' = either-computed (HasKind (Integer of)) first _ _ tt tt
+divided-kind of false first second trap trap' n n' = either-computed (HasKind (Integer of)) second _ _ tt tt
+
+numbers-kind : (of within : IntegerType) (op : BinaryOp) (a b : ℤ)
+    → Computing (HasKind (Integer of)) (numbers_value within op a b)
+numbers-kind of within Multiply a b = tt
+numbers-kind of within Divide a b = divided-kind of (is_signed within) (no_quotient a b) (no_unsigned_quotient a b) _ _ _ _
+numbers-kind of within Remainder a b = divided-kind of (is_signed within) (no_quotient a b) (no_unsigned_quotient a b) _ _ _ _
+numbers-kind of within Add a b = tt
+numbers-kind of within Subtract a b = tt
+numbers-kind of within ShiftLeft a b = tt
+numbers-kind of within ShiftRight a b = tt
+numbers-kind of within Less a b = tt
+numbers-kind of within Greater a b = tt
+numbers-kind of within LessOrEqual a b = tt
+numbers-kind of within GreaterOrEqual a b = tt
+numbers-kind of within Equal a b = tt
+numbers-kind of within NotEqual a b = tt
+numbers-kind of within BitAnd a b = tt
+numbers-kind of within BitXor a b = tt
+numbers-kind of within BitOr a b = tt
 
 pointers-kind : (op : BinaryOp) (a : ArrayName) (i : ℤ) (b : ArrayName) (j : ℤ)
     → Computing (HasKind int) (pointers_value op a i b j)
@@ -132,27 +142,28 @@ number-pointer-kind NotEqual t of a i n e h = of-type of int (pointer_number_val
 number-pointer-kind _ t of a i n e h = absurd e
 
 -- an operator gives a value of its type
-pub binary-kind : (op : BinaryOp) (one two of : ValueType) (x y : Held) → BinaryGives op one two of → HasKind one x
-    → HasKind two y → Computing (HasKind of) (binary_value op x y)
-binary-kind op Void two of x y e h h' = absurd e
-binary-kind op (Integer t) Void of x y e h h' = absurd e
-binary-kind op (Pointer t) Void of x y e h h' = absurd e
-binary-kind op (Integer t) (Integer u) of (HoldsNumber a) (HoldsNumber b) e h h' =
-    of-type of int (numbers_value op a b) e (numbers-kind op a b)
-binary-kind op (Integer t) (Integer u) of (HoldsNumber a) (HoldsPointer b j) e h h' = absurd h'
-binary-kind op (Integer t) (Integer u) of (HoldsPointer a i) y e h h' = absurd h
-binary-kind op (Pointer t) (Integer u) of (HoldsPointer a i) (HoldsNumber n) e h h' =
+pub binary-kind : (within : IntegerType) (op : BinaryOp) (one two of : ValueType) (x y : Held) → BinaryGives op one two of → HasKind one x
+    → HasKind two y → Computing (HasKind of) (binary_value within op x y)
+binary-kind within op Void two of x y e h h' = absurd e
+binary-kind within op (Integer t) Void of x y e h h' = absurd e
+binary-kind within op (Pointer t) Void of x y e h h' = absurd e
+binary-kind within op (Integer t) (Integer u) of (HoldsNumber a) (HoldsNumber b) e h h' =
+    of-type of (Integer (numbers_result op (numbers_type op t u))) (numbers_value within op a b) e
+    (numbers-kind (numbers_result op (numbers_type op t u)) within op a b)
+binary-kind within op (Integer t) (Integer u) of (HoldsNumber a) (HoldsPointer b j) e h h' = absurd h'
+binary-kind within op (Integer t) (Integer u) of (HoldsPointer a i) y e h h' = absurd h
+binary-kind within op (Pointer t) (Integer u) of (HoldsPointer a i) (HoldsNumber n) e h h' =
     pointer-number-kind op t of a i n e h
-binary-kind op (Pointer t) (Integer u) of (HoldsPointer a i) (HoldsPointer b j) e h h' = absurd h'
-binary-kind op (Pointer t) (Integer u) of (HoldsNumber a) y e h h' = absurd h
-binary-kind op (Integer t) (Pointer u) of (HoldsNumber n) (HoldsPointer b j) e h h' =
+binary-kind within op (Pointer t) (Integer u) of (HoldsPointer a i) (HoldsPointer b j) e h h' = absurd h'
+binary-kind within op (Pointer t) (Integer u) of (HoldsNumber a) y e h h' = absurd h
+binary-kind within op (Integer t) (Pointer u) of (HoldsNumber n) (HoldsPointer b j) e h h' =
     number-pointer-kind op u of b j n e h'
-binary-kind op (Integer t) (Pointer u) of (HoldsNumber n) (HoldsNumber b) e h h' = absurd h'
-binary-kind op (Integer t) (Pointer u) of (HoldsPointer a i) y e h h' = absurd h
-binary-kind op (Pointer t) (Pointer u) of (HoldsPointer a i) (HoldsPointer b j) e h h' =
+binary-kind within op (Integer t) (Pointer u) of (HoldsNumber n) (HoldsNumber b) e h h' = absurd h'
+binary-kind within op (Integer t) (Pointer u) of (HoldsPointer a i) y e h h' = absurd h
+binary-kind within op (Pointer t) (Pointer u) of (HoldsPointer a i) (HoldsPointer b j) e h h' =
     of-type of int (pointers_value op a i b j) e.2 (pointers-kind op a i b j)
-binary-kind op (Pointer t) (Pointer u) of (HoldsPointer a i) (HoldsNumber n) e h h' = absurd h'
-binary-kind op (Pointer t) (Pointer u) of (HoldsNumber n) y e h h' = absurd h
+binary-kind within op (Pointer t) (Pointer u) of (HoldsPointer a i) (HoldsNumber n) e h h' = absurd h'
+binary-kind within op (Pointer t) (Pointer u) of (HoldsNumber n) y e h h' = absurd h
 
 -- an operator on safe values gives one, whatever their types
 int-safe : (c : Computed) → Computing (HasKind int) c → Computing IsSafe c
@@ -167,12 +178,13 @@ pointer-number-safe Equal a i n h = tt
 pointer-number-safe NotEqual a i n h = tt
 pointer-number-safe _ a i n h = tt
 
-pub binary-safe : (op : BinaryOp) (x y : Held) → IsSafe x → IsSafe y → Computing IsSafe (binary_value op x y)
-binary-safe op (HoldsNumber a) (HoldsNumber b) h h' = int-safe (numbers_value op a b) (numbers-kind op a b)
-binary-safe op (HoldsPointer a i) (HoldsPointer b j) h h' =
+pub binary-safe : (within : IntegerType) (op : BinaryOp) (x y : Held) → IsSafe x → IsSafe y
+    → Computing IsSafe (binary_value within op x y)
+binary-safe within op (HoldsNumber a) (HoldsNumber b) h h' = int-safe (numbers_value within op a b) (numbers-kind Int within op a b)
+binary-safe within op (HoldsPointer a i) (HoldsPointer b j) h h' =
     int-safe (pointers_value op a i b j) (pointers-kind op a i b j)
-binary-safe op (HoldsPointer a i) (HoldsNumber n) h h' = pointer-number-safe op a i n h
-binary-safe op (HoldsNumber n) (HoldsPointer b j) h h' = pointer-number-safe op b j n h'
+binary-safe within op (HoldsPointer a i) (HoldsNumber n) h h' = pointer-number-safe op a i n h
+binary-safe within op (HoldsNumber n) (HoldsPointer b j) h h' = pointer-number-safe op b j n h'
 
 pub unary-kind : (of : IntegerType) (op : UnaryOp) (v : Held) → HasKind (Integer of) (unary_value of op v)
 unary-kind of op (HoldsNumber n) = tt

@@ -11,7 +11,7 @@ use Rattle.c_eval_laws.proofs.Agreeing.{trees_keep}
 use Rattle.c_tree.specs.declared.expression.ArrayRef.{ArrayRef}
 use Rattle.c_tree.specs.declared.expression.ArrayRef.TheVariants as refs
 use Rattle.c_tree.specs.declared.types.IntegerType.{IntegerType}
-use Rattle.c_tree.specs.declared.types.IntegerType.TheVariants.{Char, Short, Int}
+use Rattle.c_tree.specs.declared.types.IntegerType.TheVariants.{Char, Short, Int, UnsignedInt}
 use Rattle.c_tree.specs.declared.types.ValueType.{ValueType}
 use Rattle.c_tree.specs.declared.types.ValueType.TheVariants.{Void, Integer, Pointer}
 use Rattle.c_tree.specs.Evaluation.{Falls, Left, Returns, Runs, declare, declare_all, evaluate, execute, execute_from}
@@ -283,6 +283,10 @@ module _ (S : Site) (site : IsSite S) (well : WellTyped S.program) (memory : IsI
   return-typed breaks continues n (Integer Int) (Some e) own is may h =
       let (u, of) = assigned-integer Int (value_type e) h.1 in
       returns-lower S site breaks continues n (part_of c e).levels _ Int u (part_of c e) (evaluate S.calls e)
+      (in_type int) own is (of-part e h.0 ∙ of) (omega arith) (λ m. refl) (expressions e h.0) (keeps.expressions e)
+  return-typed breaks continues n (Integer UnsignedInt) (Some e) own is may h =
+      let (u, of) = assigned-integer UnsignedInt (value_type e) h.1 in
+      returns-lower S site breaks continues n (part_of c e).levels _ UnsignedInt u (part_of c e) (evaluate S.calls e)
       (in_type int) own is (of-part e h.0 ∙ of) (omega arith) (λ m. refl) (expressions e h.0) (keeps.expressions e)
   return-typed breaks continues n (Integer Short) (Some e) own is may h =
       narrow-return breaks continues n Short e own is h (expressions (Cast (Integer Short) e) h)

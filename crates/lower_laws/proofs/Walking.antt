@@ -16,7 +16,7 @@ use Rattle.c_tree.specs.declared.expression.StepOp.TheVariants.{PostDecrement}
 use Rattle.c_tree.specs.declared.expression.UnaryOp.{UnaryOp}
 use Rattle.c_tree.specs.declared.expression.UnaryOp.TheVariants.{Plus, Minus, Complement, Not}
 use Rattle.c_tree.specs.declared.types.IntegerType.{IntegerType}
-use Rattle.c_tree.specs.declared.types.IntegerType.TheVariants.{Int}
+use Rattle.c_tree.specs.Operators.{common, numbers_result, numbers_type, unary_type}
 use Rattle.c_tree.specs.declared.types.ValueType.{ValueType}
 use Rattle.c_tree.specs.declared.types.ValueType.TheVariants.{Void, Integer, Pointer}
 use Rattle.c_tree.specs.Evaluation.{evaluate}
@@ -45,28 +45,20 @@ use Rattle.lower_laws.proofs.Types.{integer-of, not-void_number}
 
 -- ---- types
 
-unary-int : (op : UnaryOp) (v : ValueType) (of : IntegerType) → UnaryGives op v of → IsInteger v → of ≡ Int
-unary-int op Void of h is = absurd is
-unary-int op (Integer t) of h is = h
-unary-int op (Pointer t) of h is = absurd is
+binary-gives : (op : BinaryOp) (p q of : ValueType) (t u : IntegerType) → p ≡ Integer t → q ≡ Integer u
+    → BinaryGives op p q of → of ≡ Integer (numbers_result op (numbers_type op t u))
+binary-gives op p q of t u is is' h =
+    subst (λ (v : ValueType). BinaryGives op (Integer t) v of) is' (subst (λ (v : ValueType). BinaryGives op v q of) is h)
 
-binary-int : (op : BinaryOp) (p q of : ValueType) → IsInteger p → IsInteger q → BinaryGives op p q of → of ≡ int
-binary-int op (Integer t) (Integer u) of is is' h = h
-binary-int op (Integer t) Void of is is' h = absurd is'
-binary-int op (Integer t) (Pointer u) of is is' h = absurd is'
-binary-int op Void q of is is' h = absurd is
-binary-int op (Pointer t) q of is is' h = absurd is
-
-conditional-int : (p q of : ValueType) → IsInteger p → IsInteger q → ConditionalGives p q of → of ≡ int
-conditional-int (Integer t) (Integer u) of is is' h = h
-conditional-int (Integer t) Void of is is' h = absurd is'
-conditional-int (Integer t) (Pointer u) of is is' h = absurd is'
-conditional-int Void q of is is' h = absurd is
-conditional-int (Pointer t) q of is is' h = absurd is
+conditional-gives : (p q of : ValueType) (t u : IntegerType) → p ≡ Integer t → q ≡ Integer u → ConditionalGives p q of
+    → of ≡ Integer (common t u)
+conditional-gives p q of t u is is' h =
+    subst (λ (v : ValueType). ConditionalGives (Integer t) v of) is'
+    (subst (λ (v : ValueType). ConditionalGives v q of) is h)
 
 module _ (S : Site) (site : IsSite S) (follow : CallsFollow S) where
   unary-type : (of : IntegerType) (op : UnaryOp) (e : Expression)
-      → (part_of (context_of S) (Unary of op e)).of ≡ int
+      → (part_of (context_of S) (Unary of op e)).of ≡ Integer of
   unary-type of Plus e = refl
   unary-type of Minus e = refl
   unary-type of Complement e = refl
@@ -116,8 +108,7 @@ module _ (S : Site) (site : IsSite S) (follow : CallsFollow S) where
   part-type (Start element array) typed is = absurd is
   part-type (Read of place) typed is = read-type of place is
   part-type (Address element place) typed is = absurd is
-  part-type (Unary of op e) typed is =
-      unary-type of op e ∙ ap (λ (t : IntegerType). Integer t) (sym (unary-int op (value_type e) of typed.1 is.1))
+  part-type (Unary of op e) typed is = unary-type of op e
   part-type (Binary of op a b) typed is = refl
   part-type (And a b) typed is = refl
   part-type (Or a b) typed is = refl
@@ -132,12 +123,12 @@ module _ (S : Site) (site : IsSite S) (follow : CallsFollow S) where
   part-type Getchar typed is = refl
   part-type (Exit e) typed is = refl
 
-  -- an operand is a number
+  -- an operand is a number, and so is its part
   operand-type : (e : Expression) → IsTyped S.program S.function e → IsNumeric S.program e
       → IsInteger (value_type e)
-      → (t : IntegerType) × ((part_of (context_of S) e).of ≡ Integer t)
+      → (t : IntegerType) × (value_type e ≡ Integer t) × ((part_of (context_of S) e).of ≡ Integer t)
   operand-type e typed is integer =
-      let (t, same) = integer-of (value_type e) integer in (t, part-type e typed is ∙ same)
+      let (t, same) = integer-of (value_type e) integer in (t, same, part-type e typed is ∙ same)
 
   -- ---- parts that are proved
 
@@ -156,15 +147,15 @@ module _ (S : Site) (site : IsSite S) (follow : CallsFollow S) where
   read-does (Integer w) (Target element e) typed is = absurd is.0
   read-does (Integer w) (Element element a i) typed is = absurd is.0
 
-  unary-does : (of : IntegerType) (op : UnaryOp) (e : Expression) → of ≡ Int → (t : IntegerType)
+  unary-does : (of : IntegerType) (op : UnaryOp) (e : Expression) (t : IntegerType) → of ≡ unary_type op t
       → (part_of (context_of S) e).of ≡ Integer t → Does e → Does (Unary of op e)
-  unary-does of Plus e is t same does =
+  unary-does of Plus e t is same does =
       subst (λ (u : IntegerType). Does (Unary u Plus e)) (sym is) (pluses-lower S site e t does same)
-  unary-does of Minus e is t same does =
+  unary-does of Minus e t is same does =
       subst (λ (u : IntegerType). Does (Unary u Minus e)) (sym is) (minuses-lower S site e t does same)
-  unary-does of Complement e is t same does =
+  unary-does of Complement e t is same does =
       subst (λ (u : IntegerType). Does (Unary u Complement e)) (sym is) (complements-lower S site e t does same)
-  unary-does of Not e is t same does =
+  unary-does of Not e t is same does =
       subst (λ (u : IntegerType). Does (Unary u Not e)) (sym is)
       (nots-lower S site e does (not-void_number (part_of (context_of S) e).of t same))
 
@@ -183,15 +174,15 @@ module _ (S : Site) (site : IsSite S) (follow : CallsFollow S) where
 
   update-does : (of : ValueType) (op : BinaryOp) (place : Place) (e : Expression)
       → IsPlace S.program S.function place of → IsNumeric S.program (Update of op place e) → (t : IntegerType)
-      → (part_of (context_of S) e).of ≡ Integer t → Does e → Does (Update of op place e)
-  update-does Void op place e typed is t same does = absurd is.1
-  update-does (Pointer u) op place e typed is t same does = absurd is.1
-  update-does (Integer w) op (LocalPlace k) e typed is t same does =
+      → value_type e ≡ Integer t → (part_of (context_of S) e).of ≡ Integer t → Does e → Does (Update of op place e)
+  update-does Void op place e typed is t kind same does = absurd is.1
+  update-does (Pointer u) op place e typed is t kind same does = absurd is.1
+  update-does (Integer w) op (LocalPlace k) e typed is t kind same does =
       let (l, there, of) = some-and (slice_get S.function.locals k) (λ m. m.of ≡ Integer w) typed in
-      updates-lower S site op k l w there of e t does same
-  update-does (Integer w) op (StaticPlace k) e typed is t same does = absurd is.0
-  update-does (Integer w) op (Target element e') e typed is t same does = absurd is.0
-  update-does (Integer w) op (Element element a i) e typed is t same does = absurd is.0
+      updates-lower S site op k l w there of e t kind does same
+  update-does (Integer w) op (StaticPlace k) e typed is t kind same does = absurd is.0
+  update-does (Integer w) op (Target element e') e typed is t kind same does = absurd is.0
+  update-does (Integer w) op (Element element a i) e typed is t kind same does = absurd is.0
 
   step-does : (of : ValueType) (op : StepOp) (place : Place) → IsPlace S.program S.function place of
       → IsNumeric S.program (Step of op place) → Does (Step of op place)
@@ -208,7 +199,7 @@ module _ (S : Site) (site : IsSite S) (follow : CallsFollow S) where
       → CastsNumber to (value_type e) → Does e → Does (Cast to e)
   cast-does Void e typed is casts does = voids-lower S site e does
   cast-does (Integer w) e typed is casts does =
-      let (t, same) = operand-type e typed is casts in casts-lower S site w e t does same
+      let (t, kind, same) = operand-type e typed is casts in casts-lower S site w e t does same
   cast-does (Pointer u) e typed is casts does = absurd casts
 
   -- ---- calls
@@ -260,40 +251,41 @@ module _ (S : Site) (site : IsSite S) (follow : CallsFollow S) where
     numbers-follow (Read of place) typed is = read-does of place typed is
     numbers-follow (Address element place) typed is = absurd is
     numbers-follow (Unary of op e) typed is =
-        let (t, same) = operand-type e typed.0 is.0 is.1 in
-        unary-does of op e (unary-int op (value_type e) of typed.1 is.1) t same (numbers-follow e typed.0 is.0)
+        let (t, kind, same) = operand-type e typed.0 is.0 is.1 in
+        unary-does of op e t (subst (λ (v : ValueType). UnaryGives op v of) kind typed.1) same
+        (numbers-follow e typed.0 is.0)
     numbers-follow (Binary of op a b) typed is =
-        let (t, same) = operand-type a typed.0 is.0 is.1 in
-        let (u, same') = operand-type b typed.1 is.2 is.3 in
+        let (t, kind, same) = operand-type a typed.0 is.0 is.1 in
+        let (u, kind', same') = operand-type b typed.1 is.2 is.3 in
         subst (λ (p : ValueType). Does (Binary p op a b))
-        (sym (binary-int op (value_type a) (value_type b) of is.1 is.3 typed.2))
-        (binaries-lower S site op a b t u (numbers-follow a typed.0 is.0) same (numbers-follow b typed.1 is.2) same')
+        (sym (binary-gives op (value_type a) (value_type b) of t u kind kind' typed.2))
+        (binaries-lower S site (numbers_result op (numbers_type op t u)) op a b t u kind kind' (numbers-follow a typed.0 is.0) same (numbers-follow b typed.1 is.2) same')
     numbers-follow (And a b) typed is =
-        let (t, same) = operand-type a typed.0 is.0 is.1 in
-        let (u, same') = operand-type b typed.2 is.2 is.3 in
+        let (t, kind, same) = operand-type a typed.0 is.0 is.1 in
+        let (u, kind', same') = operand-type b typed.2 is.2 is.3 in
         ands-lower S site a b (numbers-follow a typed.0 is.0) (numbers-follow b typed.2 is.2)
         (not-void_number (part_of (context_of S) a).of t same) (not-void_number (part_of (context_of S) b).of u same')
     numbers-follow (Or a b) typed is =
-        let (t, same) = operand-type a typed.0 is.0 is.1 in
-        let (u, same') = operand-type b typed.2 is.2 is.3 in
+        let (t, kind, same) = operand-type a typed.0 is.0 is.1 in
+        let (u, kind', same') = operand-type b typed.2 is.2 is.3 in
         ors-lower S site a b (numbers-follow a typed.0 is.0) (numbers-follow b typed.2 is.2)
         (not-void_number (part_of (context_of S) a).of t same) (not-void_number (part_of (context_of S) b).of u same')
     numbers-follow (Conditional of q a b) typed is =
-        let (r, same) = operand-type q typed.0 is.0 is.1 in
-        let (t, same') = operand-type a typed.2 is.2 is.3 in
-        let (u, same'') = operand-type b typed.3 is.4 is.5 in
+        let (r, kind, same) = operand-type q typed.0 is.0 is.1 in
+        let (t, kind', same') = operand-type a typed.2 is.2 is.3 in
+        let (u, kind'', same'') = operand-type b typed.3 is.4 is.5 in
         subst (λ (p : ValueType). Does (Conditional p q a b))
-        (sym (conditional-int (value_type a) (value_type b) of is.3 is.5 typed.4))
+        (sym (conditional-gives (value_type a) (value_type b) of t u kind' kind'' typed.4))
         (conditionals-lower S site q a b t u (numbers-follow q typed.0 is.0)
         (not-void_number (part_of (context_of S) q).of r same) (numbers-follow a typed.2 is.2) same'
         (numbers-follow b typed.3 is.4) same'')
     numbers-follow (Cast to e) typed is = cast-does to e typed.0 is.0 is.1 (numbers-follow e typed.0 is.0)
     numbers-follow (Assign of place e) typed is =
-        let (t, same) = operand-type e typed.1 is.2 is.3 in
+        let (t, kind, same) = operand-type e typed.1 is.2 is.3 in
         assign-does of place e typed.0 is t same (numbers-follow e typed.1 is.2)
     numbers-follow (Update of op place e) typed is =
-        let (t, same) = operand-type e typed.1 is.2 is.3 in
-        update-does of op place e typed.0 is t same (numbers-follow e typed.1 is.2)
+        let (t, kind, same) = operand-type e typed.1 is.2 is.3 in
+        update-does of op place e typed.0 is t kind same (numbers-follow e typed.1 is.2)
     numbers-follow (Step of op place) typed is = step-does of op place typed is
     numbers-follow (Comma a b) typed is =
         commas-lower S site a b (numbers-follow a typed.0 is.0) (numbers-follow b typed.1 is.1)
@@ -302,11 +294,11 @@ module _ (S : Site) (site : IsSite S) (follow : CallsFollow S) where
         × AreArguments S.program S.function (parameters_of g) es) typed in
         call-does of k es typed is (arguments-follow (parameters_in f) es parts.1 is.1)
     numbers-follow (Putchar e) typed is =
-        let (t, same) = operand-type e typed.0 is.0 is.1 in
+        let (t, kind, same) = operand-type e typed.0 is.0 is.1 in
         putchars-lower S site e t (numbers-follow e typed.0 is.0) same
     numbers-follow Getchar typed is = getchar-lowers S site
     numbers-follow (Exit e) typed is =
-        let (t, same) = operand-type e typed.0 is.0 is.1 in
+        let (t, kind, same) = operand-type e typed.0 is.0 is.1 in
         exits-lower S site e t (numbers-follow e typed.0 is.0) same
 
     arguments-follow : (ls : List Local) (es : Arguments) → AreArguments S.program S.function ls es

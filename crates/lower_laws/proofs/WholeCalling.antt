@@ -7,7 +7,7 @@ use Rattle.std.specs.Prelude.{slice_get}
 use Rattle.pcc_base.specs.Outcome.{Value}
 use Rattle.c_eval_laws.specs.Bounds.{state_of}
 use Rattle.c_eval_laws.proofs.Agreeing.{trees_keep}
-use Rattle.c_tree.specs.declared.types.IntegerType.TheVariants.{Char, Short, Int}
+use Rattle.c_tree.specs.declared.types.IntegerType.TheVariants.{Char, Short, Int, UnsignedInt}
 use Rattle.c_tree.specs.declared.types.ValueType.{ValueType}
 use Rattle.c_tree.specs.declared.types.ValueType.TheVariants.{Void, Integer, Pointer}
 use Rattle.c_tree.specs.Evaluation.{evaluate, evaluate_all}
@@ -132,6 +132,7 @@ into-void Void h = h
 into-void (Integer Char) h = h
 into-void (Integer Short) h = h
 into-void (Integer Int) h = h
+into-void (Integer UnsignedInt) h = h
 into-void (Pointer t) h = h
 
 module _ (S : Site) (site : IsSite S) (follow : CallsFollow S) (older : List Function) (k : ℕ) (f : Function)

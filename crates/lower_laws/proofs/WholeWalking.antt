@@ -11,6 +11,7 @@ use Rattle.c_tree.specs.declared.expression.UnaryOp.{UnaryOp}
 use Rattle.c_tree.specs.declared.expression.UnaryOp.TheVariants.{Plus, Minus, Complement, Not}
 use Rattle.c_tree.specs.declared.types.IntegerType.{IntegerType}
 use Rattle.c_tree.specs.declared.types.IntegerType.TheVariants.{Int}
+use Rattle.c_tree.specs.Operators.{numbers_result, numbers_type, unary_type}
 use Rattle.c_tree.specs.declared.types.ValueType.{ValueType}
 use Rattle.c_tree.specs.declared.types.ValueType.TheVariants.{Void, Integer, Pointer}
 use Rattle.c_tree.specs.Evaluation.{locate}
@@ -98,7 +99,7 @@ module _ (S : Site) (site : IsSite S) (whole : WellTyped S.program) (follow : Ca
   -- ---- operators
 
   unary-number : (op : UnaryOp) (e : Expression) (t : IntegerType) → type_in S e ≡ Integer t → Does S e
-      → Does S (Unary Int op e)
+      → Does S (Unary (unary_type op t) op e)
   unary-number Plus e t is does = pluses-lower S site e t does is
   unary-number Minus e t is does = minuses-lower S site e t does is
   unary-number Complement e t is does = complements-lower S site e t does is
@@ -164,21 +165,21 @@ module _ (S : Site) (site : IsSite S) (whole : WellTyped S.program) (follow : Ca
   number-pointer BitXor a b t u of is is' gives da db = absurd gives
   number-pointer BitOr a b t u of is is' gives da db = absurd gives
 
-  binary-does : (op : BinaryOp) (a b : Expression) (p q of : ValueType) → type_in S a ≡ p → type_in S b ≡ q
-      → BinaryGives op p q of → Does S a → Does S b → Does S (Binary of op a b)
-  binary-does op a b (Integer t) (Integer u) of is is' gives da db =
+  binary-does : (op : BinaryOp) (a b : Expression) (p q of : ValueType) → value_type a ≡ p → value_type b ≡ q
+      → type_in S a ≡ p → type_in S b ≡ q → BinaryGives op p q of → Does S a → Does S b → Does S (Binary of op a b)
+  binary-does op a b (Integer t) (Integer u) of kind kind' is is' gives da db =
       subst (λ (p : ValueType). Does S (Binary p op a b)) (sym gives)
-      (binaries-lower S site op a b t u da is db is')
-  binary-does op a b (Pointer t) (Integer u) of is is' gives da db =
+      (binaries-lower S site (numbers_result op (numbers_type op t u)) op a b t u kind kind' da is db is')
+  binary-does op a b (Pointer t) (Integer u) of kind kind' is is' gives da db =
       pointer-number op a b t u of is is' gives da db
-  binary-does op a b (Integer t) (Pointer u) of is is' gives da db =
+  binary-does op a b (Integer t) (Pointer u) of kind kind' is is' gives da db =
       number-pointer op a b t u of is is' gives da db
-  binary-does op a b (Pointer t) (Pointer u) of is is' gives da db =
+  binary-does op a b (Pointer t) (Pointer u) of kind kind' is is' gives da db =
       subst (λ (p : ValueType). Does S (Binary p op a b)) (sym gives.2)
       (pointers-compared S site op gives.1 a b t u da is db is')
-  binary-does op a b Void q of is is' gives da db = absurd gives
-  binary-does op a b (Integer t) Void of is is' gives da db = absurd gives
-  binary-does op a b (Pointer t) Void of is is' gives da db = absurd gives
+  binary-does op a b Void q of kind kind' is is' gives da db = absurd gives
+  binary-does op a b (Integer t) Void of kind kind' is is' gives da db = absurd gives
+  binary-does op a b (Pointer t) Void of kind kind' is is' gives da db = absurd gives
 
   conditional-does : (c a b : Expression) (p q of : ValueType) → type_in S a ≡ p → type_in S b ≡ q
       → ConditionalGives p q of → Does S c → type_in S c ≢ Void → Does S a → Does S b
@@ -295,41 +296,44 @@ module _ (S : Site) (site : IsSite S) (whole : WellTyped S.program) (follow : Ca
   -- ---- assignments with an operator, and steps
 
   update-local : (of : ValueType) (op : BinaryOp) (k : ℕ) (l : Local) → slice_get S.function.locals k ≡ Some l
-      → l.of ≡ of → (e : Expression) (u : IntegerType) → CanUpdate op of (Integer u) → Does S e
-      → type_in S e ≡ Integer u → Does S (Update of op (LocalPlace k) e)
-  update-local Void op k l there of e u can does is = absurd can
-  update-local (Integer w) op k l there of e u can does is = updates-lower S site op k l w there of e u does is
-  update-local (Pointer t) op k l there of e u can does is = pointers-moved S site op can k l t there of e u does is
+      → l.of ≡ of → (e : Expression) (u : IntegerType) → CanUpdate op of (Integer u) → value_type e ≡ Integer u
+      → Does S e → type_in S e ≡ Integer u → Does S (Update of op (LocalPlace k) e)
+  update-local Void op k l there of e u can kind does is = absurd can
+  update-local (Integer w) op k l there of e u can kind does is =
+      updates-lower S site op k l w there of e u kind does is
+  update-local (Pointer t) op k l there of e u can kind does is =
+      pointers-moved S site op can k l t there of e u does is
 
   update-element : (op : BinaryOp) (a i : Expression) (t : IntegerType) → Does S a → Does S i
-      → ArePair t (type_in S a) (type_in S i) → (e : Expression) (u : IntegerType) → Does S e → type_in S e ≡ Integer u
-      → Does S (Update (Integer t) op (Element t a i) e)
-  update-element op a i t da di (inl (is, w, is')) e u does same =
-      indexes-updated S site op a i t da is w di is' e u does same
-  update-element op a i t da di (inr (w, is, is')) e u does same =
-      turned-updated S site op a i t w da is di is' e u does same
+      → ArePair t (type_in S a) (type_in S i) → (e : Expression) (u : IntegerType) → value_type e ≡ Integer u → Does S e
+      → type_in S e ≡ Integer u → Does S (Update (Integer t) op (Element t a i) e)
+  update-element op a i t da di (inl (is, w, is')) e u kind does same =
+      indexes-updated S site op a i t da is w di is' e u kind does same
+  update-element op a i t da di (inr (w, is, is')) e u kind does same =
+      turned-updated S site op a i t w da is di is' e u kind does same
 
   update-does : (of : ValueType) (op : BinaryOp) (place : Place) (e : Expression)
-      → IsPlace S.program S.function place of → PlaceDoes S place → (v : ValueType) → type_in S e ≡ v
-      → CanUpdate op of v → Does S e → Does S (Update of op place e)
-  update-does of op (LocalPlace k) e typed found v is can does =
-      let (l, there, same) = some-and (slice_get S.function.locals k) (λ m. m.of ≡ of) typed in
+      → IsPlace S.program S.function place of → PlaceDoes S place → (v : ValueType) → value_type e ≡ v
+      → type_in S e ≡ v → CanUpdate op of v → Does S e → Does S (Update of op place e)
+  update-does of op (LocalPlace k) e typed found v same is can does =
+      let (l, there, at) = some-and (slice_get S.function.locals k) (λ m. m.of ≡ of) typed in
       let (u, kind) = updating-integer op of v can in
-      update-local of op k l there same e u (subst (λ (p : ValueType). CanUpdate op of p) kind can) does (is ∙ kind)
-  update-does of op (StaticPlace k) e typed found v is can does =
+      update-local of op k l there at e u (subst (λ (p : ValueType). CanUpdate op of p) kind can) (same ∙ kind) does
+      (is ∙ kind)
+  update-does of op (StaticPlace k) e typed found v same is can does =
       let (o, there, one) = some-and (slice_get S.program.objects k)
       (λ x. (length x.elements ≡ 1) × (Integer x.element ≡ of)) typed in
       let (u, kind) = updating-integer op of v can in
       subst (λ (p : ValueType). Does S (Update p op (StaticPlace k) e)) one.1
-      (objects-updated S site op k o there one.0 e u does (is ∙ kind))
-  update-does of op (Target t p) e typed found v is can does =
+      (objects-updated S site op k o there one.0 e u (same ∙ kind) does (is ∙ kind))
+  update-does of op (Target t p) e typed found v same is can does =
       let (u, kind) = updating-integer op of v can in
       subst (λ (q : ValueType). Does S (Update q op (Target t p) e)) typed.2
-      (targets-updated S site op p t found.0 found.1 e u does (is ∙ kind))
-  update-does of op (Element t a i) e typed found v is can does =
+      (targets-updated S site op p t found.0 found.1 e u (same ∙ kind) does (is ∙ kind))
+  update-does of op (Element t a i) e typed found v same is can does =
       let (u, kind) = updating-integer op of v can in
       subst (λ (q : ValueType). Does S (Update q op (Element t a i) e)) typed.3
-      (update-element op a i t found.0 found.1 found.2 e u does (is ∙ kind))
+      (update-element op a i t found.0 found.1 found.2 e u (same ∙ kind) does (is ∙ kind))
 
   step-local : (of : ValueType) (op : StepOp) (k : ℕ) (l : Local) → slice_get S.function.locals k ≡ Some l
       → l.of ≡ of → Does S (Step of op (LocalPlace k))
@@ -385,8 +389,8 @@ module _ (S : Site) (site : IsSite S) (whole : WellTyped S.program) (follow : Ca
     expression-does (Unary of op e) typed =
         unary-does of op e (value_type e) (part-type S e typed.0) typed.1 (expression-does e typed.0)
     expression-does (Binary of op a b) typed =
-        binary-does op a b (value_type a) (value_type b) of (part-type S a typed.0) (part-type S b typed.1) typed.2
-        (expression-does a typed.0) (expression-does b typed.1)
+        binary-does op a b (value_type a) (value_type b) of refl refl (part-type S a typed.0) (part-type S b typed.1)
+        typed.2 (expression-does a typed.0) (expression-does b typed.1)
     expression-does (And a b) typed =
         ands-lower S site a b (expression-does a typed.0) (expression-does b typed.2) (not-void a typed.0 typed.1)
         (not-void b typed.2 typed.3)
@@ -402,8 +406,8 @@ module _ (S : Site) (site : IsSite S) (whole : WellTyped S.program) (follow : Ca
         assign-does of place e typed.0 (place-does place of typed.0) (value_type e) (part-type S e typed.1) typed.2
         (expression-does e typed.1)
     expression-does (Update of op place e) typed =
-        update-does of op place e typed.0 (place-does place of typed.0) (value_type e) (part-type S e typed.1) typed.2
-        (expression-does e typed.1)
+        update-does of op place e typed.0 (place-does place of typed.0) (value_type e) refl (part-type S e typed.1)
+        typed.2 (expression-does e typed.1)
     expression-does (Step of op place) typed = step-does of op place typed (place-does place of typed)
     expression-does (Comma a b) typed =
         commas-lower S site a b (expression-does a typed.0) (expression-does b typed.1)

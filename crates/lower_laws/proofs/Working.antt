@@ -1,7 +1,9 @@
 -- What the lines of an operator do, whose operands are two numbers in variables.
-use Rattle.std.proofs.Common.{◌≡◌, ◌≢◌, ℕ, suc, ◌+◌, ◌*◌, ◌<◌, ◌≤◌, ◌^◌, Bool, true, false, ℤ, pos, List, []}
-use Rattle.std.proofs.Common.{◌∷◌, ◌++◌, Option, Some, None, refl, ap, ◌∙◌, subst, arith, inl, inr}
-use Rattle.std.specs.Prelude.{◌*ℤ◌, ◌+ℤ◌, ◌-ℤ◌, int_div, int_rem, if◌then◌else◌}
+use Rattle.std.proofs.Common.{◌≡◌, ◌≢◌, ℕ, suc, ◌+◌, ◌*◌, ◌<◌, ◌≤◌, ◌^◌, Bool, true, false, not, ℤ, pos, List}
+use Rattle.std.proofs.Common.{◌⊎◌, [], ◌∷◌, ◌++◌, Option, Some, None, refl, sym, ap, ◌∙◌, subst, arith, inl, inr}
+use Rattle.std.specs.Prelude.{◌*ℤ◌, ◌+ℤ◌, ◌-ℤ◌, int_div, int_lt, int_rem, nat_le, nat_lt, if◌then◌else◌}
+use Rattle.std.proofs.lemmas.Bool.Decides.{leb_tells}
+use Rattle.std.proofs.lemmas.Option.{same_Some}
 use Rattle.std.specs.Int.{w8, w32, int_wrap, int_bit_and, int_bit_or, int_bit_xor}
 use Rattle.pcc_base.specs.Outcome.{Trapped, Value, Number}
 use Rattle.pcc_base.specs.declared.run.Trap.TheVariants.{Divide as DivideTrap}
@@ -11,8 +13,11 @@ use Rattle.c_tree.specs.declared.expression.BinaryOp.TheVariants.{Multiply, Divi
 use Rattle.c_tree.specs.declared.expression.BinaryOp.TheVariants.{ShiftRight, Less, Greater, LessOrEqual}
 use Rattle.c_tree.specs.declared.expression.BinaryOp.TheVariants.{GreaterOrEqual, Equal, NotEqual, BitAnd, BitXor}
 use Rattle.c_tree.specs.declared.expression.BinaryOp.TheVariants.{BitOr}
-use Rattle.c_tree.specs.Operators.{Computed, Computes, Traps, no_quotient, number, numbers_value, shift_count}
-use Rattle.c_tree.specs.Operators.{shifted_right}
+use Rattle.c_tree.specs.declared.types.IntegerType.{IntegerType}
+use Rattle.c_tree.specs.Operators.{Computed, Computes, Traps, is_signed, no_quotient, no_unsigned_quotient, number}
+use Rattle.c_tree.specs.Operators.{numbers_value, quotient_from_0, remainder_from_0, shift_count, shifted_right}
+use Rattle.c_tree.specs.Operators.{shifted_unsigned, signed_quotient, signed_remainder, unsigned_quotient}
+use Rattle.c_tree.specs.Operators.{unsigned_remainder}
 use Rattle.c_tree.specs.Program.{Function}
 use Rattle.c_tree.specs.Store as source
 use Rattle.c_tree.specs.Store.{Held, HoldsNumber, HoldsPointer}
@@ -20,21 +25,24 @@ use Rattle.flow_graph.specs.declared.op.Comparison.{Comparison}
 use Rattle.flow_graph.specs.declared.op.Comparison.TheVariants.{Eq, Ne, Lt, Le, Gt, Ge}
 use Rattle.flow_graph.specs.declared.op.Op.{Op}
 use Rattle.flow_graph.specs.declared.op.Op.TheVariants as op
+use Rattle.flow_graph.specs.declared.op.Order.{Order}
+use Rattle.flow_graph.specs.declared.op.Order.TheVariants as order
 use Rattle.flow_graph.specs.Graphs.{is_end}
 use Rattle.flow_graph.specs.Kinds.{is_turn, marked}
-use Rattle.flow_graph.specs.Meaning.{act, arrays_compared, both, comparison, compared, divided, first_of, two_numbers}
+use Rattle.flow_graph.specs.Meaning.{act, arrays_compared, both, comparison, compared, divided_unless, first_of}
+use Rattle.flow_graph.specs.Meaning.{ordered, two_numbers, unsigned}
 use Rattle.flow_graph.specs.Running.{outcome_at}
 use Rattle.flow_graph.specs.States as graph
 use Rattle.flow_graph.specs.States.{GraphProgram, array_at, number_at, number_of, value_at, with_value}
 use Rattle.lower_lines.specs.Following.{Comes, IsSite, Site, Stand, behind, context_of, graphs_of}
 use Rattle.lower_lines.specs.Lines.{Line, Emit}
-use Rattle.lower_lines.specs.Operators.{computing}
+use Rattle.lower_lines.specs.Operators.{NumberTest, WithSigns, WithoutSigns, computing, order_in, test_of, test_set}
 use Rattle.lower_lines.specs.Relation.{Keeps, Shows}
 use Rattle.lower_lines.specs.Variables.{ForByte, ForScratch, Spot, levels_of, local_variables}
 use Rattle.lower_lines.specs.Variables.{temporary}
 use Rattle.lower_lines.proofs.Changes.{kept-by-change, kept-none, temporaries-free}
 use Rattle.lower_lines.proofs.Locals.{get-set_other, get-set_same}
-use Rattle.lower_lines.proofs.Steps.{copy-step, divide-step, divide-traps, one-step, set-step, two-step}
+use Rattle.lower_lines.proofs.Steps.{answer_at, copy-step, divide-step, divide-traps, one-step, set-step, two-step}
 use Rattle.lower_laws.proofs.Going.{Goes, stand-back, stand-front}
 use Rattle.lower_laws.proofs.Made.{MayTake, variable-there}
 use Rattle.lower_laws.proofs.Pairs.{IsPlaced, goes-both}
@@ -59,6 +67,77 @@ comparison-is how g x y m n at_x at_y =
     (arrays_compared how (array_at g x) (array_at g y))) at_x
     ∙ ap (λ (b : Option ℤ). first_of (both (Some m) b (compared how))
     (arrays_compared how (array_at g x) (array_at g y))) at_y
+
+-- ---- what tests answer
+
+-- of two numbers
+abbrev pub answer : NumberTest → ℤ → ℤ → Bool
+answer (WithSigns how) m n = compared how m n
+answer (WithoutSigns how) m n = ordered how m n
+
+-- of two variables that hold them
+pub answer-is : (test : NumberTest) (g : graph.State) (x y : ℕ) (m n : ℤ) → number_at g x ≡ Some m
+    → number_at g y ≡ Some n → answer_at test g x y ≡ Some (answer test m n)
+answer-is (WithSigns how) g x y m n at_x at_y = comparison-is how g x y m n at_x at_y
+answer-is (WithoutSigns how) g x y m n at_x at_y =
+    ap (λ (a : Option ℤ). both a (number_at g y) (ordered how)) at_x
+    ∙ ap (λ (b : Option ℤ). both (Some m) b (ordered how)) at_y
+
+-- what the operator that a test stands for gives of them
+answer-of-order : (b : Bool) (signed : Comparison) (unsigned : Order) (m n : ℤ)
+    → answer (if b then WithSigns signed else WithoutSigns unsigned) m n
+    ≡ (if b then compared signed m n else ordered unsigned m n)
+answer-of-order true signed unsigned m n = refl
+answer-of-order false signed unsigned m n = refl
+
+least-turned : (i j : ℕ) → nat_le i j ≡ not (nat_lt j i)
+least-turned i j = by (nat_le i j) (nat_lt j i) (leb_tells i j) (leb_tells (suc j) i)
+  where
+    by : (b c : Bool) → ((b ≡ true) × (i ≤ j)) ⊎ ((b ≡ false) × (j < i))
+        → ((c ≡ true) × (suc j ≤ i)) ⊎ ((c ≡ false) × (i < suc j)) → b ≡ not c
+    by b c (inl (e, within)) (inr (f, below)) = e ∙ sym (ap not f)
+    by b c (inr (e, below)) (inl (f, above)) = e ∙ sym (ap not f)
+    by b c (inl (e, within)) (inl (f, above)) = absurd (omega (arith, within, above))
+    by b c (inr (e, below)) (inr (f, within)) = absurd (omega (arith, below, within))
+
+either-turned : (b u v w : Bool) → w ≡ not v → (if b then not u else w) ≡ not (if b then u else v)
+either-turned true u v w e = refl
+either-turned false u v w e = e
+
+abbrev asked : Bool → Computed
+asked holds = number (if holds then pos 1 else pos 0)
+
+pub answer-value : (within : IntegerType) (operator : BinaryOp) (test : NumberTest) (m n : ℤ)
+    → test_of within operator ≡ Some test
+    → number (if answer test m n then pos 1 else pos 0) ≡ numbers_value within operator m n
+answer-value within Less test m n e =
+    ap asked (ap (λ (t : NumberTest). answer t m n) (sym (same_Some (order_in within Lt order.Lt) test e))
+    ∙ answer-of-order (is_signed within) Lt order.Lt m n)
+answer-value within Greater test m n e =
+    ap asked (ap (λ (t : NumberTest). answer t m n) (sym (same_Some (order_in within Gt order.Gt) test e))
+    ∙ answer-of-order (is_signed within) Gt order.Gt m n)
+answer-value within LessOrEqual test m n e =
+    ap asked (ap (λ (t : NumberTest). answer t m n) (sym (same_Some (order_in within Le order.Le) test e))
+    ∙ answer-of-order (is_signed within) Le order.Le m n
+    ∙ either-turned (is_signed within) (int_lt n m) _ _ (least-turned (unsigned m) (unsigned n)))
+answer-value within GreaterOrEqual test m n e =
+    ap asked (ap (λ (t : NumberTest). answer t m n) (sym (same_Some (order_in within Ge order.Ge) test e))
+    ∙ answer-of-order (is_signed within) Ge order.Ge m n
+    ∙ either-turned (is_signed within) (int_lt m n) _ _ (least-turned (unsigned n) (unsigned m)))
+answer-value within Equal test m n e =
+    ap (λ (t : NumberTest). asked (answer t m n)) (sym (same_Some (WithSigns Eq) test e))
+answer-value within NotEqual test m n e =
+    ap (λ (t : NumberTest). asked (answer t m n)) (sym (same_Some (WithSigns Ne) test e))
+answer-value within Multiply test m n e = absurd (cc)
+answer-value within Divide test m n e = absurd (cc)
+answer-value within Remainder test m n e = absurd (cc)
+answer-value within Add test m n e = absurd (cc)
+answer-value within Subtract test m n e = absurd (cc)
+answer-value within ShiftLeft test m n e = absurd (cc)
+answer-value within ShiftRight test m n e = absurd (cc)
+answer-value within BitAnd test m n e = absurd (cc)
+answer-value within BitXor test m n e = absurd (cc)
+answer-value within BitOr test m n e = absurd (cc)
 
 -- a temporary of another role isn't where an operand stands, at its level or the next one
 pub apart-scratch : (S : Site) (level other y : ℕ) → IsPlaced S other y → level ≤ other
@@ -118,15 +197,18 @@ module _ (S : Site) (site : IsSite S) (older : List Function) (level x y : ℕ) 
   )
 
   -- a comparison
-  set-works : (how : Comparison) → Works S (S.function ∷ older) level (λ to. Emit (op.Set how to x y) ∷ []) before t g
-      (Computes (HoldsNumber (if compared how m n then pos 1 else pos 0)))
-  set-works how = (
-    g,
-    shows,
-    kept-none (local_variables S.function) level g,
-    λ to takes here o r. set-step S site before g fits how to.number x y (compared how m n) t.turns o here
-        (comparison-is how g x y m n at_x at_y) r,
-  )
+  set-works : (within : IntegerType) (operator : BinaryOp) (test : NumberTest) → test_of within operator ≡ Some test
+      → Works S (S.function ∷ older) level (λ to. Emit (test_set test to x y) ∷ []) before t g
+      (numbers_value within operator m n)
+  set-works within operator test is =
+      subst (λ (c : Computed). Works S (S.function ∷ older) level (λ to. Emit (test_set test to x y) ∷ []) before t g c)
+      (answer-value within operator test m n is) (
+        g,
+        shows,
+        kept-none (local_variables S.function) level g,
+        λ to takes here o r. set-step S site before g fits test to.number x y (answer test m n) t.turns o here
+            (answer-is test g x y m n at_x at_y) r,
+      )
 
   -- ---- a quotient: the dividend is a copy
 
@@ -162,19 +244,21 @@ module _ (S : Site) (site : IsSite S) (older : List Function) (level x y : ℕ) 
   abbrev copy : Op
   copy = op.Copy z x
 
-  divided-works : (made_by : ℕ → Op) (f : ℤ → ℤ → ℤ) (traps : Bool) → no_quotient m n ≡ traps
+  divided-works : (fails : ℤ → ℤ → Bool) (made_by : ℕ → Op) (f : ℤ → ℤ → ℤ) (traps : Bool) → fails m n ≡ traps
       → ((d : ℕ) → (is_turn (made_by d) ≡ false) × (marked (made_by d) ≡ None) × (is_end (made_by d) ≡ false))
-      → ((program : GraphProgram) (u : graph.State) (d : ℕ) → act program u (made_by d) ≡ divided program u d z y f)
+      → ((program : GraphProgram) (u : graph.State) (d : ℕ) → act program u (made_by d)
+      ≡ divided_unless fails program u d z y f)
       → Works S (S.function ∷ older) level (λ to. Emit copy ∷ Emit (made_by to) ∷ []) before t g
       (if traps then Traps DivideTrap else number (f m n))
-  divided-works made_by f true quotient kind does =
+  divided-works fails made_by f true quotient kind does =
       λ to here. copy-step S site before g fits z x (Number m) t.turns (outcome_at g (Trapped DivideTrap))
       (stand-front S before (Emit copy ∷ []) (Emit (made_by to.number) ∷ []) here)
       (value-number (value_at g x) m at_x)
-      (divide-traps S site (before ++ Emit copy ∷ []) copied_in fits (made_by to.number) to.number z y f m n t.turns
+      (divide-traps S site (before ++ Emit copy ∷ []) copied_in fits fails (made_by to.number) to.number z y f m n
+      t.turns
       (stand-back S before (Emit copy ∷ []) (Emit (made_by to.number) ∷ []) here) (kind to.number).0 (kind to.number).1
       (does (graphs_of S) (behind (before ++ Emit copy ∷ []) copied_in) to.number) copied-at divisor-at quotient)
-  divided-works made_by f false quotient kind does = (
+  divided-works fails made_by f false quotient kind does = (
     copied_in,
     copied-shows,
     copied-keeps,
@@ -183,11 +267,27 @@ module _ (S : Site) (site : IsSite S) (older : List Function) (level x y : ℕ) 
         (λ o r. copy-step S site before g fits z x (Number m) t.turns o
         (stand-front S before (Emit copy ∷ []) (Emit (made_by to.number) ∷ []) here)
         (value-number (value_at g x) m at_x) r)
-        (λ o r. divide-step S site (before ++ Emit copy ∷ []) copied_in fits (made_by to.number) to.number z y f m n
-        t.turns o (stand-back S before (Emit copy ∷ []) (Emit (made_by to.number) ∷ []) here) (kind to.number).0
+        (λ o r. divide-step S site (before ++ Emit copy ∷ []) copied_in fits fails (made_by to.number) to.number z y f
+        m n t.turns o (stand-back S before (Emit copy ∷ []) (Emit (made_by to.number) ∷ []) here) (kind to.number).0
         (kind to.number).1 (kind to.number).2
         (does (graphs_of S) (behind (before ++ Emit copy ∷ []) copied_in) to.number) copied-at divisor-at quotient r),
   )
+
+  quotient-works : (signed : Bool) → Works S (S.function ∷ older) level
+      (λ to. Emit copy ∷ Emit (if signed then op.Div to z y else op.Udiv to z y) ∷ []) before t g
+      (if signed then signed_quotient m n else quotient_from_0 m n)
+  quotient-works true = divided-works no_quotient (λ d. op.Div d z y) int_div (no_quotient m n) refl
+      (λ d. (refl, refl, refl)) (λ program u d. refl)
+  quotient-works false = divided-works no_unsigned_quotient (λ d. op.Udiv d z y) unsigned_quotient
+      (no_unsigned_quotient m n) refl (λ d. (refl, refl, refl)) (λ program u d. refl)
+
+  remainder-works : (signed : Bool) → Works S (S.function ∷ older) level
+      (λ to. Emit copy ∷ Emit (if signed then op.Rem to z y else op.Urem to z y) ∷ []) before t g
+      (if signed then signed_remainder m n else remainder_from_0 m n)
+  remainder-works true = divided-works no_quotient (λ d. op.Rem d z y) int_rem (no_quotient m n) refl
+      (λ d. (refl, refl, refl)) (λ program u d. refl)
+  remainder-works false = divided-works no_unsigned_quotient (λ d. op.Urem d z y) unsigned_remainder
+      (no_unsigned_quotient m n) refl (λ d. (refl, refl, refl)) (λ program u d. refl)
 
   -- ---- a shift: the count is a byte
 
@@ -246,35 +346,40 @@ module _ (S : Site) (site : IsSite S) (older : List Function) (level x y : ℕ) 
             (does (graphs_of S) (behind (before ++ Emit low ∷ []) counted) to.number) shifted-at count-at r),
       )
 
+  right-shift-works : (signed : Bool) → Works S (S.function ∷ older) level
+      (λ to. Emit low ∷ Emit (if signed then op.Sar to x count else op.Shr to x count) ∷ []) before t g
+      (number (if signed then shifted_right m (shift_count n) else shifted_unsigned m (shift_count n)))
+  right-shift-works true = shifted-works (λ d. op.Sar d x count) (λ a b. shifted_right a (shift_count b))
+      (ap (λ (k : ℕ). shifted_right m k) (bytes-count n)) (λ d. (refl, refl, refl)) (λ program u d. refl)
+  right-shift-works false = shifted-works (λ d. op.Shr d x count) (λ a b. shifted_unsigned a (shift_count b))
+      (ap (λ (k : ℕ). shifted_unsigned m k) (bytes-count n)) (λ d. (refl, refl, refl)) (λ program u d. refl)
+
   -- ---- every operator
 
-  pub computing-works : (operator : BinaryOp)
-      → Works S (S.function ∷ older) level (λ to. computing (context_of S) level operator to x y) before t g
-      (numbers_value operator m n)
-  computing-works Multiply = plain-works (λ d. op.Mul d x y) (λ a b. int_wrap w32 (a *ℤ b))
+  pub computing-works : (within : IntegerType) (operator : BinaryOp)
+      → Works S (S.function ∷ older) level (λ to. computing (context_of S) level within operator to x y) before t g
+      (numbers_value within operator m n)
+  computing-works within Multiply = plain-works (λ d. op.Mul d x y) (λ a b. int_wrap w32 (a *ℤ b))
       (λ d. (refl, refl, refl)) (λ program u d. refl)
-  computing-works Divide = divided-works (λ d. op.Div d z y) int_div (no_quotient m n) refl
+  computing-works within Divide = quotient-works (is_signed within)
+  computing-works within Remainder = remainder-works (is_signed within)
+  computing-works within Add = plain-works (λ d. op.Add d x y) (λ a b. int_wrap w32 (a +ℤ b))
       (λ d. (refl, refl, refl)) (λ program u d. refl)
-  computing-works Remainder = divided-works (λ d. op.Rem d z y) int_rem (no_quotient m n) refl
+  computing-works within Subtract = plain-works (λ d. op.Sub d x y) (λ a b. int_wrap w32 (a -ℤ b))
       (λ d. (refl, refl, refl)) (λ program u d. refl)
-  computing-works Add = plain-works (λ d. op.Add d x y) (λ a b. int_wrap w32 (a +ℤ b))
-      (λ d. (refl, refl, refl)) (λ program u d. refl)
-  computing-works Subtract = plain-works (λ d. op.Sub d x y) (λ a b. int_wrap w32 (a -ℤ b))
-      (λ d. (refl, refl, refl)) (λ program u d. refl)
-  computing-works ShiftLeft = shifted-works (λ d. op.Shl d x count)
+  computing-works within ShiftLeft = shifted-works (λ d. op.Shl d x count)
       (λ a b. int_wrap w32 (a *ℤ pos (2 ^ shift_count b)))
       (ap (λ (k : ℕ). int_wrap w32 (m *ℤ pos (2 ^ k))) (bytes-count n)) (λ d. (refl, refl, refl)) (λ program u d. refl)
-  computing-works ShiftRight = shifted-works (λ d. op.Sar d x count) (λ a b. shifted_right a (shift_count b))
-      (ap (λ (k : ℕ). shifted_right m k) (bytes-count n)) (λ d. (refl, refl, refl)) (λ program u d. refl)
-  computing-works Less = set-works Lt
-  computing-works Greater = set-works Gt
-  computing-works LessOrEqual = set-works Le
-  computing-works GreaterOrEqual = set-works Ge
-  computing-works Equal = set-works Eq
-  computing-works NotEqual = set-works Ne
-  computing-works BitAnd = plain-works (λ d. op.And d x y) (int_bit_and w32) (λ d. (refl, refl, refl))
+  computing-works within ShiftRight = right-shift-works (is_signed within)
+  computing-works within Less = set-works within Less (order_in within Lt order.Lt) refl
+  computing-works within Greater = set-works within Greater (order_in within Gt order.Gt) refl
+  computing-works within LessOrEqual = set-works within LessOrEqual (order_in within Le order.Le) refl
+  computing-works within GreaterOrEqual = set-works within GreaterOrEqual (order_in within Ge order.Ge) refl
+  computing-works within Equal = set-works within Equal (WithSigns Eq) refl
+  computing-works within NotEqual = set-works within NotEqual (WithSigns Ne) refl
+  computing-works within BitAnd = plain-works (λ d. op.And d x y) (int_bit_and w32) (λ d. (refl, refl, refl))
       (λ program u d. refl)
-  computing-works BitXor = plain-works (λ d. op.Xor d x y) (int_bit_xor w32) (λ d. (refl, refl, refl))
+  computing-works within BitXor = plain-works (λ d. op.Xor d x y) (int_bit_xor w32) (λ d. (refl, refl, refl))
       (λ program u d. refl)
-  computing-works BitOr = plain-works (λ d. op.Or d x y) (int_bit_or w32) (λ d. (refl, refl, refl))
+  computing-works within BitOr = plain-works (λ d. op.Or d x y) (int_bit_or w32) (λ d. (refl, refl, refl))
       (λ program u d. refl)

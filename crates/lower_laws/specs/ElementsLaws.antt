@@ -6,8 +6,8 @@ use Rattle.c_tree.specs.declared.expression.StepOp.{StepOp}
 use Rattle.c_tree.specs.declared.types.IntegerType.{IntegerType}
 use Rattle.c_tree.specs.declared.types.ValueType.TheVariants.{Integer, Pointer}
 use Rattle.c_tree.specs.Evaluation.{Found, evaluate, load, locate, updated}
-use Rattle.c_tree.specs.Operators.{step_op, step_result}
-use Rattle.c_tree.specs.Program.{Element, Expression, Step, Target, Update}
+use Rattle.c_tree.specs.Operators.{numbers_type, step_op, step_result, step_type}
+use Rattle.c_tree.specs.Program.{Element, Expression, Step, Target, Update, value_type}
 use Rattle.c_tree.specs.Store as source
 use Rattle.c_tree.specs.Store.{Evaluated, Gives, Held, HoldsNumber, and_then}
 use Rattle.lower_lines.specs.Expressions.{Addressed, part_of, place_of, stepped_element, updated_element}
@@ -28,27 +28,29 @@ pub record IsClear (S : Site) (a : Addressed) : Type 0 where
   pub kept : (level : ℕ) → a.spot false level ≡ own (context_of S) level
   pub plain : (level : ℕ) → IsPlain S level (a.spot true level).array × IsPlain S level (a.spot true level).number
 
--- what an assignment with an operator to a place does
-abbrev pub updating : IntegerType → BinaryOp → (source.State → Evaluated Found) → (source.State → Evaluated Held)
-    → source.State → Evaluated Held
-updating t operator run run' s =
+-- what an assignment to a place does with an operator that works in a type
+abbrev pub updating : IntegerType → IntegerType → BinaryOp → (source.State → Evaluated Found)
+    → (source.State → Evaluated Held) → source.State → Evaluated Held
+updating t within operator run run' s =
     and_then (run s) (λ found u.
-    and_then (load found u) (λ old v. and_then (run' v) (updated (Integer t) operator found old)))
+    and_then (load found u) (λ old v. and_then (run' v) (updated (Integer t) within operator found old)))
 
 -- what `++` and `--` of a place do
 abbrev pub stepping : IntegerType → StepOp → (source.State → Evaluated Found) → source.State → Evaluated Held
 stepping t operator run s =
     and_then (run s) (λ found u.
     and_then (load found u) (λ old v.
-    and_then (updated (Integer t) (step_op operator) found old (HoldsNumber (pos 1)) v)
+    and_then (updated (Integer t) (step_type operator (Integer t)) (step_op operator) found old (HoldsNumber (pos 1)) v)
     (λ new w. Gives (step_result operator old new) w)))
 
--- an element that has an address is assigned to with an operator
+-- An element that has an address is assigned to with an operator, which works in the type that its type and that of the
+-- value tell.
 abbrev pub ElementsAreUpdated : Type 0
 ElementsAreUpdated = (S : Site) → IsSite S → (t : IntegerType) (operator : BinaryOp) (to : Addressed)
     (run : source.State → Evaluated Found) → AddressFollows S t to run → IsClear S to → KeepsTurns run → (a : Part)
     (run' : source.State → Evaluated Held) (u : IntegerType) → Lowers S a run' → a.of ≡ Integer u → 1 ≤ a.levels
-    → Lowers S (updated_element (context_of S) t operator to a) (updating t operator run run')
+    → Lowers S (updated_element (context_of S) t operator to a)
+    (updating t (numbers_type operator t u) operator run run')
 
 -- `++` and `--` of it
 abbrev pub ElementsAreStepped : Type 0
@@ -56,12 +58,13 @@ ElementsAreStepped = (S : Site) → IsSite S → (t : IntegerType) (operator : S
     (run : source.State → Evaluated Found) → AddressFollows S t to run → IsClear S to → KeepsTurns run
     → Lowers S (stepped_element (context_of S) operator t to) (stepping t operator run)
 
--- ---- what a pointer goes to
+-- ---- what a pointer goes to; the assigned value has the type of its part
 
 abbrev pub TargetsAreUpdated : Type 0
 TargetsAreUpdated = (S : Site) → IsSite S → (operator : BinaryOp) (e : Expression) (t : IntegerType)
     → Lowers S (part_of (context_of S) e) (evaluate S.calls e) → (part_of (context_of S) e).of ≡ Pointer t
-    → (value : Expression) (u : IntegerType) → Lowers S (part_of (context_of S) value) (evaluate S.calls value)
+    → (value : Expression) (u : IntegerType) → value_type value ≡ Integer u
+    → Lowers S (part_of (context_of S) value) (evaluate S.calls value)
     → (part_of (context_of S) value).of ≡ Integer u
     → Lowers S (part_of (context_of S) (Update (Integer t) operator (Target t e) value))
     (evaluate S.calls (Update (Integer t) operator (Target t e) value))
@@ -78,7 +81,7 @@ abbrev pub IndexesAreUpdated : Type 0
 IndexesAreUpdated = (S : Site) → IsSite S → (operator : BinaryOp) (a b : Expression) (t : IntegerType)
     → Lowers S (part_of (context_of S) a) (evaluate S.calls a) → (part_of (context_of S) a).of ≡ Pointer t
     → (u : IntegerType) → Lowers S (part_of (context_of S) b) (evaluate S.calls b)
-    → (part_of (context_of S) b).of ≡ Integer u → (value : Expression) (w : IntegerType)
+    → (part_of (context_of S) b).of ≡ Integer u → (value : Expression) (w : IntegerType) → value_type value ≡ Integer w
     → Lowers S (part_of (context_of S) value) (evaluate S.calls value)
     → (part_of (context_of S) value).of ≡ Integer w
     → Lowers S (part_of (context_of S) (Update (Integer t) operator (Element t a b) value))
@@ -98,7 +101,8 @@ abbrev pub TurnedAreUpdated : Type 0
 TurnedAreUpdated = (S : Site) → IsSite S → (operator : BinaryOp) (a b : Expression) (t u : IntegerType)
     → Lowers S (part_of (context_of S) a) (evaluate S.calls a) → (part_of (context_of S) a).of ≡ Integer u
     → Lowers S (part_of (context_of S) b) (evaluate S.calls b) → (part_of (context_of S) b).of ≡ Pointer t
-    → (value : Expression) (w : IntegerType) → Lowers S (part_of (context_of S) value) (evaluate S.calls value)
+    → (value : Expression) (w : IntegerType) → value_type value ≡ Integer w
+    → Lowers S (part_of (context_of S) value) (evaluate S.calls value)
     → (part_of (context_of S) value).of ≡ Integer w
     → Lowers S (part_of (context_of S) (Update (Integer t) operator (Element t a b) value))
     (evaluate S.calls (Update (Integer t) operator (Element t a b) value))

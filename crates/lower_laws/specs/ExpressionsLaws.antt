@@ -9,9 +9,9 @@ use Rattle.c_tree.specs.declared.types.IntegerType.{IntegerType}
 use Rattle.c_tree.specs.declared.types.IntegerType.TheVariants.{Char, Int}
 use Rattle.c_tree.specs.declared.types.ValueType.TheVariants.{Void, Integer}
 use Rattle.c_tree.specs.Evaluation.{evaluate}
-use Rattle.c_tree.specs.Operators.{shift_count}
-use Rattle.c_tree.specs.Program.{Conditional, Or, And, Step, Update, Comma, Exit, Putchar, Assign, Cast, int, Binary}
-use Rattle.c_tree.specs.Program.{Constant, Expression, Getchar, Local, LocalPlace, Read, Unary}
+use Rattle.c_tree.specs.Operators.{common, promoted, shift_count}
+use Rattle.c_tree.specs.Program.{Conditional, Or, And, Step, Update, Comma, Exit, Putchar, Assign, Cast, Binary}
+use Rattle.c_tree.specs.Program.{Constant, Expression, Getchar, Local, LocalPlace, Read, Unary, value_type}
 use Rattle.lower_lines.specs.Expressions.{part_of}
 use Rattle.c_tree.specs.Evaluation.{evaluate_all}
 use Rattle.std.specs.List.{All}
@@ -44,16 +44,17 @@ LocalsLower = (S : Site) → IsSite S → (k : ℕ) (l : Local) (t : IntegerType
 abbrev pub GetcharLowers : Type 0
 GetcharLowers = (S : Site) → IsSite S → Lowers S (part_of (context_of S) Getchar) (evaluate S.calls Getchar)
 
--- `-` and `~` of an expression that does, which is of an integer type
+-- `-` and `~` of an expression that does, which is of an integer type: each gives a number of the promoted type
 abbrev pub MinusesLower : Type 0
 MinusesLower = (S : Site) → IsSite S → (e : Expression) (u : IntegerType)
     → Lowers S (part_of (context_of S) e) (evaluate S.calls e) → (part_of (context_of S) e).of ≡ Integer u
-    → Lowers S (part_of (context_of S) (Unary Int Minus e)) (evaluate S.calls (Unary Int Minus e))
+    → Lowers S (part_of (context_of S) (Unary (promoted u) Minus e)) (evaluate S.calls (Unary (promoted u) Minus e))
 
 abbrev pub ComplementsLower : Type 0
 ComplementsLower = (S : Site) → IsSite S → (e : Expression) (u : IntegerType)
     → Lowers S (part_of (context_of S) e) (evaluate S.calls e) → (part_of (context_of S) e).of ≡ Integer u
-    → Lowers S (part_of (context_of S) (Unary Int Complement e)) (evaluate S.calls (Unary Int Complement e))
+    → Lowers S (part_of (context_of S) (Unary (promoted u) Complement e))
+    (evaluate S.calls (Unary (promoted u) Complement e))
 
 -- ---- operators on two numbers
 
@@ -61,12 +62,15 @@ ComplementsLower = (S : Site) → IsSite S → (e : Expression) (u : IntegerType
 abbrev pub BytesCount : Type 0
 BytesCount = (n : ℤ) → shift_count (int_wrap w8 n) ≡ shift_count n
 
--- an operator on two numbers
+-- An operator on two numbers works in the type that their types tell, and gives a number of any integer type. Here and
+-- below, an expression has the type of its part.
 abbrev pub BinariesLower : Type 0
-BinariesLower = (S : Site) → IsSite S → (operator : BinaryOp) (a b : Expression) (t u : IntegerType)
+BinariesLower = (S : Site) → IsSite S → (of : IntegerType) (operator : BinaryOp) (a b : Expression) (t u : IntegerType)
+    → value_type a ≡ Integer t → value_type b ≡ Integer u
     → Lowers S (part_of (context_of S) a) (evaluate S.calls a) → (part_of (context_of S) a).of ≡ Integer t
     → Lowers S (part_of (context_of S) b) (evaluate S.calls b) → (part_of (context_of S) b).of ≡ Integer u
-    → Lowers S (part_of (context_of S) (Binary int operator a b)) (evaluate S.calls (Binary int operator a b))
+    → Lowers S (part_of (context_of S) (Binary (Integer of) operator a b))
+    (evaluate S.calls (Binary (Integer of) operator a b))
 
 -- a cast of a number to an integer type
 abbrev pub CastsLower : Type 0
@@ -104,8 +108,8 @@ CommasLower = (S : Site) → IsSite S → (a b : Expression) → Lowers S (part_
 abbrev pub UpdatesLower : Type 0
 UpdatesLower = (S : Site) → IsSite S → (operator : BinaryOp) (k : ℕ) (l : Local) (w : IntegerType)
     → slice_get S.function.locals k ≡ Some l → l.of ≡ Integer w → (e : Expression) (u : IntegerType)
-    → Lowers S (part_of (context_of S) e) (evaluate S.calls e) → (part_of (context_of S) e).of ≡ Integer u
-    → Lowers S (part_of (context_of S) (Update (Integer w) operator (LocalPlace k) e))
+    → value_type e ≡ Integer u → Lowers S (part_of (context_of S) e) (evaluate S.calls e)
+    → (part_of (context_of S) e).of ≡ Integer u → Lowers S (part_of (context_of S) (Update (Integer w) operator (LocalPlace k) e))
     (evaluate S.calls (Update (Integer w) operator (LocalPlace k) e))
 
 -- `++` and `--` of a local
@@ -140,19 +144,20 @@ ChoicesLower = (S : Site) → IsSite S → (of : ValueType) (q a b : Expression)
     → Lowers S (part_of (context_of S) (Cast of b)) (evaluate S.calls (Cast of b))
     → Lowers S (part_of (context_of S) (Conditional of q a b)) (evaluate S.calls (Conditional of q a b))
 
--- `?:`, of two numbers
+-- `?:`, of two numbers, which gives one of their common type
 abbrev pub ConditionalsLower : Type 0
 ConditionalsLower = (S : Site) → IsSite S → (q a b : Expression) (t u : IntegerType)
     → Lowers S (part_of (context_of S) q) (evaluate S.calls q) → (part_of (context_of S) q).of ≢ Void
     → Lowers S (part_of (context_of S) a) (evaluate S.calls a) → (part_of (context_of S) a).of ≡ Integer t
     → Lowers S (part_of (context_of S) b) (evaluate S.calls b) → (part_of (context_of S) b).of ≡ Integer u
-    → Lowers S (part_of (context_of S) (Conditional int q a b)) (evaluate S.calls (Conditional int q a b))
+    → Lowers S (part_of (context_of S) (Conditional (Integer (common t u)) q a b))
+    (evaluate S.calls (Conditional (Integer (common t u)) q a b))
 
 -- the unary `+`
 abbrev pub PlusesLower : Type 0
 PlusesLower = (S : Site) → IsSite S → (e : Expression) (u : IntegerType)
     → Lowers S (part_of (context_of S) e) (evaluate S.calls e) → (part_of (context_of S) e).of ≡ Integer u
-    → Lowers S (part_of (context_of S) (Unary Int Plus e)) (evaluate S.calls (Unary Int Plus e))
+    → Lowers S (part_of (context_of S) (Unary (promoted u) Plus e)) (evaluate S.calls (Unary (promoted u) Plus e))
 
 -- a cast to void, of an expression of any type
 abbrev pub VoidsLower : Type 0

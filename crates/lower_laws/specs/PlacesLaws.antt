@@ -11,8 +11,7 @@ use Rattle.c_tree.specs.declared.types.IntegerType.{IntegerType}
 use Rattle.c_tree.specs.declared.types.ValueType.TheVariants.{Integer, Pointer}
 use Rattle.c_tree.specs.Evaluation.{Found, evaluate, load, locate, own_array, store, zeroed}
 use Rattle.c_tree.specs.Program.{Address, Assign, Element, Expression, Function, Program, Read, StaticObject}
-use Rattle.c_tree.specs.Program.{StaticPlace, Step, Update}
-use Rattle.c_tree.specs.Program.{Target}
+use Rattle.c_tree.specs.Program.{StaticPlace, Step, Target, Update, value_type}
 use Rattle.c_tree.specs.Store as source
 use Rattle.c_tree.specs.Store.{Evaluated, Held, and_then, array_named, array_of, in_type}
 use Rattle.c_tree.specs.WellTyped.{IsArray}
@@ -68,11 +67,12 @@ ObjectsAreAssigned = (S : Site) → IsSite S → (k : ℕ) (o : StaticObject) �
     → Lowers S (part_of (context_of S) (Assign (Integer o.element) (StaticPlace k) e))
     (evaluate S.calls (Assign (Integer o.element) (StaticPlace k) e))
 
--- a number is assigned to it with an operator
+-- a number is assigned to it with an operator; its expression has the type of its part
 abbrev pub ObjectsAreUpdated : Type 0
 ObjectsAreUpdated = (S : Site) → IsSite S → (operator : BinaryOp) (k : ℕ) (o : StaticObject)
     → slice_get S.program.objects k ≡ Some o → length o.elements ≡ 1 → (e : Expression) (u : IntegerType)
-    → Lowers S (part_of (context_of S) e) (evaluate S.calls e) → (part_of (context_of S) e).of ≡ Integer u
+    → value_type e ≡ Integer u → Lowers S (part_of (context_of S) e) (evaluate S.calls e)
+    → (part_of (context_of S) e).of ≡ Integer u
     → Lowers S (part_of (context_of S) (Update (Integer o.element) operator (StaticPlace k) e))
     (evaluate S.calls (Update (Integer o.element) operator (StaticPlace k) e))
 

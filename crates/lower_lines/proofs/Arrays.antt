@@ -11,7 +11,7 @@ use Rattle.std.specs.Int.{w8, w16}
 use Rattle.std.proofs.lemmas.Option.{same_Some}
 use Rattle.pcc_base.specs.Outcome.{Null, Static, InFrame, Unknown}
 use Rattle.c_tree.specs.declared.types.IntegerType.{IntegerType}
-use Rattle.c_tree.specs.declared.types.IntegerType.TheVariants.{Char, Short, Int}
+use Rattle.c_tree.specs.declared.types.IntegerType.TheVariants.{Char, Short, Int, UnsignedInt}
 use Rattle.c_tree.specs.Objects.{data_object}
 use Rattle.c_tree.specs.Program.{Function, LocalArray, Program, StaticObject}
 use Rattle.c_tree.specs.Sizes.{bytes_of}
@@ -82,11 +82,13 @@ pub converted-of : (t : IntegerType) (n : ℤ) → IsNumberOf t (converted t n)
 converted-of Char n = int_wrap_fits w8 _ (SFits-int_wrap w8 n)
 converted-of Short n = int_wrap_fits w16 _ (SFits-int_wrap w16 n)
 converted-of Int n = refl
+converted-of UnsignedInt n = refl
 
 zero-of : (t : IntegerType) → IsNumberOf t (pos 0)
 zero-of Char = int_wrap_fits w8 (pos 0) (record { sfits = omega arith })
 zero-of Short = int_wrap_fits w16 (pos 0) (record { sfits = omega arith })
 zero-of Int = refl
+zero-of UnsignedInt = refl
 
 pub zeros-fit : (t : IntegerType) (n : ℕ) → AreNumbersOf t (replicate n (pos 0))
 zeros-fit t n = All-replicate (IsNumberOf t) n (pos 0) (zero-of t)
@@ -205,6 +207,7 @@ of-bits : (t : IntegerType) (elements : List ℤ) (go : List ℤ → Moved)
 of-bits Char elements go = refl
 of-bits Short elements go = refl
 of-bits Int elements go = refl
+of-bits UnsignedInt elements go = refl
 
 pub arrays-reached : ArraysAreReached
 arrays-reached p active s g t Null shows is some go = absurd (some refl)

@@ -5,7 +5,7 @@ use Rattle.std.specs.Prelude.{slice_get, slice_set}
 use Rattle.std.specs.List.{AllZip}
 use Rattle.pcc_base.specs.Outcome.{ArrayName, Value, Number}
 use Rattle.c_tree.specs.declared.types.IntegerType.{IntegerType}
-use Rattle.c_tree.specs.declared.types.IntegerType.TheVariants.{Char, Short, Int}
+use Rattle.c_tree.specs.declared.types.IntegerType.TheVariants.{Char, Short, Int, UnsignedInt}
 use Rattle.c_tree.specs.declared.types.ValueType.{ValueType}
 use Rattle.c_tree.specs.declared.types.ValueType.TheVariants.{Integer, Pointer}
 use Rattle.c_tree.specs.Program.{Local, Function, Program}
@@ -143,6 +143,7 @@ pub one-variable : (t : IntegerType) → length (type_widths (Integer t)) ≡ 1
 one-variable Char = refl
 one-variable Short = refl
 one-variable Int = refl
+one-variable UnsignedInt = refl
 
 number-call : (p : Program) (f : Function) (active : List Function) (a : source.Activation) (b : graph.Activation)
     (k : ℕ) (l : Local) (t : IntegerType) (n : ℤ) → slice_get f.locals k ≡ Some l → l.of ≡ Integer t

@@ -5,7 +5,7 @@ use Rattle.std.specs.List.{All, AllByRecursion}
 use Rattle.std.proofs.lemmas.Bool.Decides.{nat_tests}
 use Rattle.std.proofs.lemmas.List.Elements.{All-from_recursion, recursion_from_All}
 use Rattle.pcc_base.proofs.Lists.{all-at}
-use Rattle.c_tree.specs.declared.types.IntegerType.TheVariants.{Char, Short, Int}
+use Rattle.c_tree.specs.declared.types.IntegerType.TheVariants.{Char, Short, Int, UnsignedInt}
 use Rattle.c_tree.specs.declared.types.ValueType.{ValueType}
 use Rattle.c_tree.specs.declared.types.ValueType.TheVariants.{Void, Integer, Pointer}
 use Rattle.c_tree.specs.Program.{Expression, Elements, Text, Item, Scalar, Array, First, Nothing, Evaluated}
@@ -77,6 +77,7 @@ parameter-plain c Void spot word = tt
 parameter-plain c (Integer Char) spot word = (refl, (refl, tt))
 parameter-plain c (Integer Short) spot word = (refl, (refl, tt))
 parameter-plain c (Integer Int) spot word = (refl, tt)
+parameter-plain c (Integer UnsignedInt) spot word = (refl, tt)
 parameter-plain c (Pointer t) spot word = (refl, (refl, tt))
 
 pub parameters-plain : (c : Context) (ls : List Local) (local word : ℕ) → IsPlain (parameters_lines c ls local word)

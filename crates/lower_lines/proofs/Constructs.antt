@@ -11,10 +11,10 @@ use Rattle.c_tree.specs.declared.expression.StepOp.TheVariants.{PostDecrement}
 use Rattle.c_tree.specs.declared.expression.UnaryOp.{UnaryOp}
 use Rattle.c_tree.specs.declared.expression.UnaryOp.TheVariants.{Plus, Minus, Complement, Not}
 use Rattle.c_tree.specs.declared.types.IntegerType.{IntegerType}
-use Rattle.c_tree.specs.declared.types.IntegerType.TheVariants.{Char, Short, Int}
+use Rattle.c_tree.specs.declared.types.IntegerType.TheVariants.{Char, Short, Int, UnsignedInt}
 use Rattle.c_tree.specs.declared.types.ValueType.{ValueType}
 use Rattle.c_tree.specs.declared.types.ValueType.TheVariants.{Void, Integer, Pointer}
-use Rattle.c_tree.specs.Operators.{step_op}
+use Rattle.c_tree.specs.Operators.{step_op, step_type, working_type}
 use Rattle.c_tree.specs.Program.{int, Local}
 use Rattle.c_tree.specs.Store.{converted}
 use Rattle.c_tree.specs.declared.expression.BinaryOp.TheVariants.{Equal, NotEqual, Add}
@@ -43,7 +43,7 @@ use Rattle.lower_lines.specs.Operators.{applied_blocks, on_pointer_blocks, on_po
 use Rattle.lower_lines.specs.Parts.{Wanted, Dropped, Own, ToLocal, Tests, Part, Operand, as_pointer, bits_of}
 use Rattle.lower_lines.specs.Parts.{compound}
 use Rattle.lower_lines.specs.Parts.{converting, delivered, if_stays, in_type, made, narrowed, null_lines}
-use Rattle.lower_lines.specs.Parts.{operand, standing, tested_blocks}
+use Rattle.lower_lines.specs.Parts.{operand, retyped, standing, tested_blocks}
 use Rattle.lower_lines.specs.Variables.{Context, ForNumber, Spot, local_spot, own, temporary}
 use Rattle.lower_lines.proofs.Filling.{Lays, IsPlain, end-lays, emit-lays, lays-then, lays-to, none-lays}
 use Rattle.lower_lines.proofs.Filling.{plain-append}
@@ -156,6 +156,11 @@ local-laid c (Integer Int) local = record {
   tests = λ holds fails. refl;
   stood = refl;
 }
+local-laid c (Integer UnsignedInt) local = record {
+  lays = λ block level w m. reading-lays c block level w (Integer UnsignedInt) (local_spot c local) m;
+  tests = λ holds fails. refl;
+  stood = refl;
+}
 local-laid c (Pointer t) local = record {
   lays = λ block level w m. reading-lays c block level w (Pointer t) (local_spot c local) m;
   tests = λ holds fails. refl;
@@ -172,6 +177,8 @@ own-lays c (Integer Short) local block level = plain-lays block _
     (moved-plain (Integer Short) (own c level) (local_spot c local))
 own-lays c (Integer Int) local block level = plain-lays block _
     (moved-plain (Integer Int) (own c level) (local_spot c local))
+own-lays c (Integer UnsignedInt) local block level = plain-lays block _
+    (moved-plain (Integer UnsignedInt) (own c level) (local_spot c local))
 own-lays c (Pointer t) local block level = plain-lays block _
     (moved-plain (Pointer t) (own c level) (local_spot c local))
 
@@ -180,6 +187,7 @@ local-type c Void local = refl
 local-type c (Integer Char) local = refl
 local-type c (Integer Short) local = refl
 local-type c (Integer Int) local = refl
+local-type c (Integer UnsignedInt) local = refl
 local-type c (Pointer t) local = refl
 
 pub object-laid : (c : Context) (t : IntegerType) (k : ℕ) → IsLaid (object_part c t k)
@@ -221,16 +229,24 @@ negated-laid c a h s = record {
         (λ b holds fails. test-laid a h s b level fails holds)
     lines block level (Tests holds fails) m = test-laid a h s block level fails holds
 
-pub unary-laid : (c : Context) (operator : UnaryOp) (a : Part) → IsLaid a → IsScalar a.of
-    → IsLaid (unary_part c operator a)
-unary-laid c Plus a h s = record {
+-- the same lines for another integer type
+retyped-laid : (of : IntegerType) (a : Part) → IsLaid a → IsScalar a.of → IsLaid (retyped of a)
+retyped-laid of a h s = record {
+  lays = λ block level w m. h.lays block level w (may-scalar w a.of s);
+  tests = h.tests;
+  stood = h.stood;
+}
+
+pub unary-laid : (c : Context) (of : IntegerType) (operator : UnaryOp) (a : Part) → IsLaid a → IsScalar a.of
+    → IsLaid (unary_part c of operator a)
+unary-laid c of Plus a h s = record {
   lays = λ block level w m. h.lays block level w (may-scalar w a.of s);
   tests = h.tests;
   stood = tt;
 }
-unary-laid c Minus a h s = number-laid c op.Neg a (λ d x. refl) h
-unary-laid c Complement a h s = number-laid c op.Not a (λ d x. refl) h
-unary-laid c Not a h s = negated-laid c a h s
+unary-laid c of Minus a h s = retyped-laid of (number_part c op.Neg a) (number-laid c op.Neg a (λ d x. refl) h) tt
+unary-laid c of Complement a h s = retyped-laid of (number_part c op.Not a) (number-laid c op.Not a (λ d x. refl) h) tt
+unary-laid c of Not a h s = retyped-laid of (negated c a) (negated-laid c a h s) tt
 
 pub binary-laid : (c : Context) (of : ValueType) (operator : BinaryOp) (a b : Part) → IsLaid a → IsLaid b
     → IsScalar a.of → IsScalar b.of → IsLaid (binary_part c of operator a b)
@@ -363,6 +379,7 @@ turned-laid c Void a h = record {
 turned-laid c (Integer Char) a h = narrowed-laid c Char a h
 turned-laid c (Integer Short) a h = narrowed-laid c Short a h
 turned-laid c (Integer Int) a h = h
+turned-laid c (Integer UnsignedInt) a h = h
 turned-laid c (Pointer t) a h = pointer-laid c t a.of a h
 
 -- what is turned to a type is a scalar where the type is one
@@ -383,6 +400,7 @@ turned-scalar c Void a t s = absurd s
 turned-scalar c (Integer Char) a t s = tt
 turned-scalar c (Integer Short) a t s = tt
 turned-scalar c (Integer Int) a t s = t
+turned-scalar c (Integer UnsignedInt) a t s = t
 turned-scalar c (Pointer u) a t s = pointer-scalar c u a.of a refl
 
 pub turned-may : (c : Context) (of : ValueType) (a : Part) (w : Wanted) → Turns of a.of → May w of
@@ -570,6 +588,8 @@ named-lays c (Integer Char) local block level w m = made-lays c block level w (I
     (λ to. Emit (op.Wide to.number (local_spot c local).number) ∷ []) (λ to. (refl, tt)) m
 named-lays c (Integer Short) local block level w m = reading-lays c block level w (Integer Short) (local_spot c local) m
 named-lays c (Integer Int) local block level w m = reading-lays c block level w (Integer Int) (local_spot c local) m
+named-lays c (Integer UnsignedInt) local block level w m =
+    reading-lays c block level w (Integer UnsignedInt) (local_spot c local) m
 named-lays c (Pointer t) local block level w m = reading-lays c block level w (Pointer t) (local_spot c local) m
 
 into-local-laid : (c : Context) (of : ValueType) (local : ℕ) (a : Part) → IsLaid (in_type c of a)
@@ -609,6 +629,8 @@ assigned-local-laid c (Integer Short) local a h = into-local-laid c (Integer Sho
     (turned-laid c (Integer Short) a h)
 assigned-local-laid c (Integer Int) local a h = into-local-laid c (Integer Int) local a
     (turned-laid c (Integer Int) a h)
+assigned-local-laid c (Integer UnsignedInt) local a h = into-local-laid c (Integer UnsignedInt) local a
+    (turned-laid c (Integer UnsignedInt) a h)
 assigned-local-laid c (Pointer t) local a h = into-local-laid c (Pointer t) local a (turned-laid c (Pointer t) a h)
 
 pub assigned-type : (c : Context) (of : ValueType) (local : ℕ) (a : Part) → (assigned_local c of local a).of ≡ of
@@ -616,6 +638,7 @@ assigned-type c Void local a = refl
 assigned-type c (Integer Char) local a = refl
 assigned-type c (Integer Short) local a = refl
 assigned-type c (Integer Int) local a = refl
+assigned-type c (Integer UnsignedInt) local a = refl
 assigned-type c (Pointer t) local a = refl
 
 pub assigned-object-laid : (c : Context) (t : IntegerType) (k : ℕ) (a : Part) → IsLaid a
@@ -668,8 +691,8 @@ updated-element-laid c t operator to a h k =
           (emit-lays (block + to.blocks) last (opens w) _ _ refl
           (lays-then (block + to.blocks) last last true true
           (opens w) _ _ ((operand-laid c true a k).lays (block + to.blocks) (suc level))
-          (plain-then last last (opens w) _ _ (computing-plain c level operator (new_value c level)
-          (old_value c level) (x.spot (suc level)).number)
+          (plain-then last last (opens w) _ _ (computing-plain c level (working_type operator (Integer t) a.of) operator
+          (new_value c level) (old_value c level) (x.spot (suc level)).number)
           (emit-lays last last (opens w) _ _ refl
           (converted-lays c last level w t (new_value c level))))));
       tests = λ holds fails. refl;
@@ -772,8 +795,8 @@ stepped-element-laid c operator t to h = record {
       lays-then block last last true true (opens w) _ _
       (h.lays true block level)
       (emit-lays last last (opens w) _ _ refl (emit-lays last last (opens w) _ _ refl
-      (plain-then last last (opens w) _ _ (computing-plain c level (step_op operator) (new_value c level)
-      (old_value c level) (temporary c (suc level) ForNumber))
+      (plain-then last last (opens w) _ _ (computing-plain c level (step_type operator (Integer t)) (step_op operator)
+      (new_value c level) (old_value c level) (temporary c (suc level) ForNumber))
       (emit-lays last last (opens w) _ _ refl (step-value-lays c operator last level w t)))));
   tests = λ holds fails. refl;
   stood = tt;

@@ -5,7 +5,7 @@ use Rattle.std.specs.Prelude.{slice_get}
 use Rattle.c_tree.specs.declared.types.ValueType.{ValueType}
 use Rattle.c_tree.specs.declared.types.ValueType.TheVariants.{Void, Integer, Pointer}
 use Rattle.c_tree.specs.declared.types.IntegerType.{IntegerType}
-use Rattle.c_tree.specs.declared.types.IntegerType.TheVariants.{Char, Short, Int}
+use Rattle.c_tree.specs.declared.types.IntegerType.TheVariants.{Char, Short, Int, UnsignedInt}
 use Rattle.c_tree.specs.declared.expression.BinaryOp.{BinaryOp}
 use Rattle.c_tree.specs.declared.expression.StepOp.{StepOp}
 use Rattle.c_tree.specs.declared.expression.StepOp.TheVariants.{PreIncrement, PreDecrement, PostIncrement}
@@ -35,6 +35,7 @@ turned-levels c Void a = refl
 turned-levels c (Integer Char) a = refl
 turned-levels c (Integer Short) a = refl
 turned-levels c (Integer Int) a = refl
+turned-levels c (Integer UnsignedInt) a = refl
 turned-levels c (Pointer t) a = pointer-levels c t a.of a
 
 local-levels : (c : Context) (of : ValueType) (v : ℕ) → (local_part c of v).levels ≡ 1
@@ -42,6 +43,7 @@ local-levels c Void v = refl
 local-levels c (Integer Char) v = refl
 local-levels c (Integer Short) v = refl
 local-levels c (Integer Int) v = refl
+local-levels c (Integer UnsignedInt) v = refl
 local-levels c (Pointer t) v = refl
 
 pub assigned-levels : (c : Context) (of : ValueType) (v : ℕ) (a : Part) → (assigned_local c of v a).levels ≡ a.levels
@@ -49,6 +51,7 @@ assigned-levels c Void v a = refl
 assigned-levels c (Integer Char) v a = refl
 assigned-levels c (Integer Short) v a = refl
 assigned-levels c (Integer Int) v a = refl
+assigned-levels c (Integer UnsignedInt) v a = refl
 assigned-levels c (Pointer t) v a = turned-levels c (Pointer t) a
 
 object-levels : (c : Context) (of : ValueType) (k : ℕ) → (read_part c of (AtObject k)).levels ≡ 1
@@ -98,11 +101,12 @@ address-within c element (AtLocal v) n h = let e = local-levels c (Pointer eleme
 address-within c element (AtObject k) n h = omega (arith, h)
 address-within c element (AtAddress t to) n h = let k = h.1 in omega (arith, k)
 
-unary-levels : (c : Context) (operator : UnaryOp) (a : Part) → (unary_part c operator a).levels ≡ a.levels
-unary-levels c Plus a = refl
-unary-levels c Minus a = refl
-unary-levels c Complement a = refl
-unary-levels c Not a = refl
+unary-levels : (c : Context) (of : IntegerType) (operator : UnaryOp) (a : Part)
+    → (unary_part c of operator a).levels ≡ a.levels
+unary-levels c of Plus a = refl
+unary-levels c of Minus a = refl
+unary-levels c of Complement a = refl
+unary-levels c of Not a = refl
 
 assign-within : (c : Context) (of : ValueType) (l : Located) (a : Part) (n m : ℕ) → PlaceWithin l n → a.levels ≤ m + 1
     → (assign_part c of l a).levels ≤ suc (max n (suc m)) + 1
@@ -165,7 +169,7 @@ module _ (c : Context) where
     within (Address element place) = address-within c element (place_of c place) (place_height place)
         (place-within place)
     within (Unary of operator e) =
-        let h = within e in let k = unary-levels c operator (part_of c e) in omega (arith, h, k)
+        let h = within e in let k = unary-levels c of operator (part_of c e) in omega (arith, h, k)
     within (Binary of operator a b) = let h = within a in let k = within b in omega (arith, h, k)
     within (And a b) = let h = within a in let k = within b in omega (arith, h, k)
     within (Or a b) = let h = within a in let k = within b in omega (arith, h, k)

@@ -5,7 +5,7 @@ use Rattle.std.specs.Prelude.{slice_get, slice_set, slice_index_or}
 use Rattle.std.specs.List.{AllZip}
 use Rattle.std.proofs.lemmas.Option.{same_Some}
 use Rattle.pcc_base.specs.Outcome.{Value}
-use Rattle.c_tree.specs.declared.types.IntegerType.TheVariants.{Char, Short, Int}
+use Rattle.c_tree.specs.declared.types.IntegerType.TheVariants.{Char, Short, Int, UnsignedInt}
 use Rattle.c_tree.specs.declared.types.ValueType.{ValueType}
 use Rattle.c_tree.specs.declared.types.ValueType.TheVariants.{Void, Integer, Pointer}
 use Rattle.c_tree.specs.Program.{Local}
@@ -62,6 +62,7 @@ holds-kept vs ws Void v x same h = tt
 holds-kept vs ws (Integer Char) v (HoldsNumber n) same h = same v (omega arith) (omega arith) ∙ h
 holds-kept vs ws (Integer Short) v (HoldsNumber n) same h = same v (omega arith) (omega arith) ∙ h
 holds-kept vs ws (Integer Int) v (HoldsNumber n) same h = same v (omega arith) (omega arith) ∙ h
+holds-kept vs ws (Integer UnsignedInt) v (HoldsNumber n) same h = same v (omega arith) (omega arith) ∙ h
 holds-kept vs ws (Integer t) v (HoldsPointer array index) same h = absurd h
 holds-kept vs ws (Pointer t) v (HoldsNumber n) same h = absurd h
 holds-kept vs ws (Pointer t) v (HoldsPointer array index) same h =

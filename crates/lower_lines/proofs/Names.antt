@@ -11,7 +11,7 @@ use Rattle.c_tree.specs.declared.expression.ArrayRef.{ArrayRef}
 use Rattle.c_tree.specs.declared.expression.ArrayRef.TheVariants as refs
 use Rattle.c_tree.specs.declared.statement.Label.{Label}
 use Rattle.c_tree.specs.declared.types.IntegerType.{IntegerType}
-use Rattle.c_tree.specs.declared.types.IntegerType.TheVariants.{Char, Short, Int}
+use Rattle.c_tree.specs.declared.types.IntegerType.TheVariants.{Char, Short, Int, UnsignedInt}
 use Rattle.c_tree.specs.declared.types.ValueType.{ValueType}
 use Rattle.c_tree.specs.declared.types.ValueType.TheVariants.{Void, Integer, Pointer}
 use Rattle.c_tree.specs.Evaluation.{type_at}
@@ -77,7 +77,7 @@ module _ (p : Program) (f : Function) where
     expression-named (Read of place) h = read-named F O c of (place_of c place) (place-named place of h)
     expression-named (Address element place) h =
         address-named F O c element (place_of c place) (place-named place (Integer element) h.1)
-    expression-named (Unary of operator e) h = unary-named F O c operator (part_of c e) (expression-named e h.0)
+    expression-named (Unary of operator e) h = unary-named F O c of operator (part_of c e) (expression-named e h.0)
     expression-named (Binary of operator a b) h = binary-named F O c of operator (part_of c a) (part_of c b)
         (expression-named a h.0) (expression-named b h.1)
     expression-named (And a b) h = and-named F O c (part_of c a) (part_of c b) (expression-named a h.0)
@@ -429,6 +429,7 @@ module _ (p : Program) (f : Function) where
   parameter-named (Integer Char) spot word = (tt, (tt, tt))
   parameter-named (Integer Short) spot word = (tt, (tt, tt))
   parameter-named (Integer Int) spot word = (tt, tt)
+  parameter-named (Integer UnsignedInt) spot word = (tt, tt)
   parameter-named (Pointer t) spot word = (tt, (tt, tt))
 
   parameters-named : (ls : List Local) (local word : ℕ) → N (parameters_lines c ls local word)

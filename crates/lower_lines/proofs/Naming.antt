@@ -2,6 +2,7 @@
 use Rattle.std.proofs.Common.{◌<◌, ℕ, suc, ◌+◌, Bool, true, false, ℤ, pos, List, [], ◌∷◌, ◌++◌, Option}
 use Rattle.std.proofs.Common.{Some, None}
 use Rattle.std.specs.Prelude.{if◌then◌else◌, ◌==◌}
+use Rattle.std.proofs.lemmas.Bool.{cond_both}
 use Rattle.std.specs.List.{AllByRecursion}
 use Rattle.c_tree.specs.declared.expression.ArrayRef.{ArrayRef}
 use Rattle.c_tree.specs.declared.expression.ArrayRef.TheVariants as refs
@@ -17,15 +18,16 @@ use Rattle.c_tree.specs.declared.expression.StepOp.TheVariants.{PostDecrement}
 use Rattle.c_tree.specs.declared.expression.UnaryOp.{UnaryOp}
 use Rattle.c_tree.specs.declared.expression.UnaryOp.TheVariants.{Plus, Minus, Complement, Not}
 use Rattle.c_tree.specs.declared.types.IntegerType.{IntegerType}
-use Rattle.c_tree.specs.declared.types.IntegerType.TheVariants.{Char, Short, Int}
+use Rattle.c_tree.specs.declared.types.IntegerType.TheVariants.{Char, Short, Int, UnsignedInt}
 use Rattle.c_tree.specs.declared.types.ValueType.{ValueType}
 use Rattle.c_tree.specs.declared.types.ValueType.TheVariants.{Void, Integer, Pointer}
-use Rattle.c_tree.specs.Operators.{step_op}
+use Rattle.c_tree.specs.Operators.{is_signed, numbers_type, step_op, step_type, working_type}
 use Rattle.c_tree.specs.Program.{int, Local}
 use Rattle.c_tree.specs.Store.{converted}
-use Rattle.flow_graph.specs.declared.op.Comparison.{Comparison}
+use Rattle.flow_graph.specs.declared.op.Comparison.TheVariants.{Lt, Le, Gt, Ge}
 use Rattle.flow_graph.specs.declared.op.Op.{Op}
 use Rattle.flow_graph.specs.declared.op.Op.TheVariants as op
+use Rattle.flow_graph.specs.declared.op.Order.TheVariants as order
 use Rattle.flow_graph.specs.WellFormed.{NamesWithin}
 use Rattle.lower_lines.specs.Expressions.{Addressed, Located, AtLocal, AtObject, AtAddress, address_part, all_passed}
 use Rattle.lower_lines.specs.Expressions.{all_simple, and_part, and_test, arguments_blocks, arguments_lines}
@@ -40,7 +42,8 @@ use Rattle.lower_lines.specs.Expressions.{step_value, stepped_after, stepped_ele
 use Rattle.lower_lines.specs.Expressions.{stored_lines, target_of, test_blocks_of, unary_part, update_part}
 use Rattle.lower_lines.specs.Expressions.{updated_element}
 use Rattle.lower_lines.specs.Lines.{Line, Start, Emit, ops_in}
-use Rattle.lower_lines.specs.Operators.{applied, branching, comparison_of, computing, equality_test, moving}
+use Rattle.lower_lines.specs.Operators.{NumberTest, WithSigns, WithoutSigns, applied, branching, computing}
+use Rattle.lower_lines.specs.Operators.{equality_test, moving, order_in, test_of, test_set}
 use Rattle.lower_lines.specs.Operators.{on_numbers}
 use Rattle.lower_lines.specs.Operators.{on_pointer, on_pointers}
 use Rattle.lower_lines.specs.Parts.{Wanted, Dropped, Own, ToLocal, Tests, Part, Operand, as_pointer, bits_of, chosen}
@@ -77,25 +80,33 @@ module _ (F O : ℕ) where
   converting-named c level Char to from = (tt, (tt, tt))
   converting-named c level Short to from = (tt, tt)
   converting-named c level Int to from = copied-named to from
+  converting-named c level UnsignedInt to from = copied-named to from
 
-  computing-named : (c : Context) (level : ℕ) (operator : BinaryOp) (to x y : ℕ)
-      → Named (computing c level operator to x y)
-  computing-named c level Divide to x y = (tt, (tt, tt))
-  computing-named c level Remainder to x y = (tt, (tt, tt))
-  computing-named c level ShiftLeft to x y = (tt, (tt, tt))
-  computing-named c level ShiftRight to x y = (tt, (tt, tt))
-  computing-named c level Multiply to x y = (tt, tt)
-  computing-named c level Add to x y = (tt, tt)
-  computing-named c level Subtract to x y = (tt, tt)
-  computing-named c level Less to x y = (tt, tt)
-  computing-named c level Greater to x y = (tt, tt)
-  computing-named c level LessOrEqual to x y = (tt, tt)
-  computing-named c level GreaterOrEqual to x y = (tt, tt)
-  computing-named c level Equal to x y = (tt, tt)
-  computing-named c level NotEqual to x y = (tt, tt)
-  computing-named c level BitAnd to x y = (tt, tt)
-  computing-named c level BitXor to x y = (tt, tt)
-  computing-named c level BitOr to x y = (tt, tt)
+  set-named : (test : NumberTest) (to x y : ℕ) → NamesWithin F O (test_set test to x y)
+  set-named (WithSigns how) to x y = tt
+  set-named (WithoutSigns how) to x y = tt
+
+  computing-named : (c : Context) (level : ℕ) (within : IntegerType) (operator : BinaryOp) (to x y : ℕ)
+      → Named (computing c level within operator to x y)
+  computing-named c level within Divide to x y =
+      (tt, (cond_both (is_signed within) _ _ (NamesWithin F O) (λ _. tt) (λ _. tt), tt))
+  computing-named c level within Remainder to x y =
+      (tt, (cond_both (is_signed within) _ _ (NamesWithin F O) (λ _. tt) (λ _. tt), tt))
+  computing-named c level within ShiftLeft to x y = (tt, (tt, tt))
+  computing-named c level within ShiftRight to x y =
+      (tt, (cond_both (is_signed within) _ _ (NamesWithin F O) (λ _. tt) (λ _. tt), tt))
+  computing-named c level within Multiply to x y = (tt, tt)
+  computing-named c level within Add to x y = (tt, tt)
+  computing-named c level within Subtract to x y = (tt, tt)
+  computing-named c level within Less to x y = (set-named (order_in within Lt order.Lt) to x y, tt)
+  computing-named c level within Greater to x y = (set-named (order_in within Gt order.Gt) to x y, tt)
+  computing-named c level within LessOrEqual to x y = (set-named (order_in within Le order.Le) to x y, tt)
+  computing-named c level within GreaterOrEqual to x y = (set-named (order_in within Ge order.Ge) to x y, tt)
+  computing-named c level within Equal to x y = (tt, tt)
+  computing-named c level within NotEqual to x y = (tt, tt)
+  computing-named c level within BitAnd to x y = (tt, tt)
+  computing-named c level within BitXor to x y = (tt, tt)
+  computing-named c level within BitOr to x y = (tt, tt)
 
   -- ---- tests and values
 
@@ -155,20 +166,21 @@ module _ (F O : ℕ) where
   chosen-named c block level (ToLocal local) test h = truth-named c block level (ToLocal local) test h
   chosen-named c block level (Tests holds fails) test h = h block holds fails
 
-  branching-named : (how : Option Comparison) (w : Wanted) (otherwise : List Line) (x y : ℕ) → Named otherwise
-      → Named (branching how w otherwise x y)
-  branching-named (Some how) (Tests holds fails) otherwise x y h = (tt, tt)
-  branching-named (Some how) Dropped otherwise x y h = h
-  branching-named (Some how) Own otherwise x y h = h
-  branching-named (Some how) (ToLocal local) otherwise x y h = h
+  branching-named : (test : Option NumberTest) (w : Wanted) (otherwise : List Line) (x y : ℕ) → Named otherwise
+      → Named (branching test w otherwise x y)
+  branching-named (Some (WithSigns how)) (Tests holds fails) otherwise x y h = (tt, tt)
+  branching-named (Some (WithoutSigns how)) (Tests holds fails) otherwise x y h = (tt, tt)
+  branching-named (Some test) Dropped otherwise x y h = h
+  branching-named (Some test) Own otherwise x y h = h
+  branching-named (Some test) (ToLocal local) otherwise x y h = h
   branching-named None w otherwise x y h = h
 
-  on-numbers-named : (c : Context) (block level : ℕ) (w : Wanted) (operator : BinaryOp) (x y : ℕ)
-      → Named (on_numbers c block level w operator x y)
-  on-numbers-named c block level w operator x y =
-      let ops : Spot → List Line = λ to. computing c level operator to.number x y in
-      branching-named (comparison_of operator) w (made c block level w int ops) x y
-      (made-named c block level w int ops (λ to. computing-named c level operator to.number x y))
+  on-numbers-named : (c : Context) (block level : ℕ) (w : Wanted) (within : IntegerType) (operator : BinaryOp)
+      (x y : ℕ) → Named (on_numbers c block level w within operator x y)
+  on-numbers-named c block level w within operator x y =
+      let ops : Spot → List Line = λ to. computing c level within operator to.number x y in
+      branching-named (test_of within operator) w (made c block level w int ops) x y
+      (made-named c block level w int ops (λ to. computing-named c level within operator to.number x y))
 
   moving-add : (to x : Spot) (n : ℕ) → Named (copied to.array x.array ++ Emit (op.Add to.number x.number n) ∷ [])
   moving-add to x n = named-then (copied to.array x.array) (Emit (op.Add to.number x.number n) ∷ [])
@@ -208,8 +220,8 @@ module _ (F O : ℕ) where
   on-pointer-named c block level w BitOr x n = moves-named c block level w BitOr x n
 
   both-named : (c : Context) (block level : ℕ) (w : Wanted) (operator : BinaryOp) (x y : Spot)
-      → Named (Emit (op.Same x.array y.array) ∷ on_numbers c block level w operator x.number y.number)
-  both-named c block level w operator x y = (tt, on-numbers-named c block level w operator x.number y.number)
+      → Named (Emit (op.Same x.array y.array) ∷ on_numbers c block level w Int operator x.number y.number)
+  both-named c block level w operator x y = (tt, on-numbers-named c block level w Int operator x.number y.number)
 
   on-pointers-named : (c : Context) (block level : ℕ) (w : Wanted) (operator : BinaryOp) (x y : Spot)
       → Named (on_pointers c block level w operator x y)
@@ -238,7 +250,7 @@ module _ (F O : ℕ) where
   applied-named c block level w operator (Integer s) Void x y = tt
   applied-named c block level w operator (Pointer s) Void x y = tt
   applied-named c block level w operator (Integer s) (Integer t) x y =
-      on-numbers-named c block level w operator x.number y.number
+      on-numbers-named c block level w (numbers_type operator s t) operator x.number y.number
   applied-named c block level w operator (Pointer s) (Integer t) x y =
       on-pointer-named c block level w operator x y.number
   applied-named c block level w operator (Integer s) (Pointer t) x y =
@@ -310,6 +322,9 @@ module _ (F O : ℕ) where
     local-named (Integer Int) local = record {
       named = λ block level w. reading-named block level w (Integer Int) (local_spot c local);
     }
+    local-named (Integer UnsignedInt) local = record {
+      named = λ block level w. reading-named block level w (Integer UnsignedInt) (local_spot c local);
+    }
     local-named (Pointer t) local = record {
       named = λ block level w. reading-named block level w (Pointer t) (local_spot c local);
     }
@@ -342,11 +357,12 @@ module _ (F O : ℕ) where
             (Tests fails holds))
         lines block level (Tests holds fails) = h.named block level (Tests fails holds)
 
-    pub unary-named : (operator : UnaryOp) (a : Part) → NamedPart a → NamedPart (unary_part c operator a)
-    unary-named Plus a h = record { named = h.named }
-    unary-named Minus a h = number-named op.Neg a (λ d s. tt) h
-    unary-named Complement a h = number-named op.Not a (λ d s. tt) h
-    unary-named Not a h = negated-named a h
+    pub unary-named : (of : IntegerType) (operator : UnaryOp) (a : Part) → NamedPart a
+        → NamedPart (unary_part c of operator a)
+    unary-named of Plus a h = record { named = h.named }
+    unary-named of Minus a h = record { named = (number-named op.Neg a (λ d s. tt) h).named }
+    unary-named of Complement a h = record { named = (number-named op.Not a (λ d s. tt) h).named }
+    unary-named of Not a h = record { named = (negated-named a h).named }
 
     pub binary-named : (of : ValueType) (operator : BinaryOp) (a b : Part) → NamedPart a → NamedPart b
         → NamedPart (binary_part c of operator a b)
@@ -423,6 +439,7 @@ module _ (F O : ℕ) where
     turned-named (Integer Char) a h = narrowed-named Char a h
     turned-named (Integer Short) a h = narrowed-named Short a h
     turned-named (Integer Int) a h = h
+    turned-named (Integer UnsignedInt) a h = h
     turned-named (Pointer t) a h = pointer-named t a.of a h
 
     pub cast-named : (of : ValueType) (a : Part) → NamedPart a → NamedPart (cast_part c of a)
@@ -563,6 +580,9 @@ module _ (F O : ℕ) where
     assigned-local-named (Integer Int) local a h = record {
       named = into-local-named (Integer Int) local a (turned-named (Integer Int) a h);
     }
+    assigned-local-named (Integer UnsignedInt) local a h = record {
+      named = into-local-named (Integer UnsignedInt) local a (turned-named (Integer UnsignedInt) a h);
+    }
     assigned-local-named (Pointer t) local a h = record {
       named = into-local-named (Pointer t) local a (turned-named (Pointer t) a h);
     }
@@ -601,14 +621,16 @@ module _ (F O : ℕ) where
         → NamedPart a → NamedPart (updated_element c t operator to a)
     updated-element-named t operator to a h h' =
         let x = operand c true a in
+        let within = working_type operator (Integer t) a.of in
         record {
           named = λ block level w. named-then (to.lines a.simple block level) _ (h.named a.simple block level) (
             tt,
             named-then (x.lines (block + to.blocks) (suc level)) _
                 ((operand-named true a h').named (block + to.blocks) (suc level))
                 (named-then
-                (computing c level operator (new_value c level) (old_value c level) (x.spot (suc level)).number) _
-                (computing-named c level operator (new_value c level) (old_value c level) (x.spot (suc level)).number)
+                (computing c level within operator (new_value c level) (old_value c level) (x.spot (suc level)).number) _
+                (computing-named c level within operator (new_value c level) (old_value c level)
+                (x.spot (suc level)).number)
                 (tt, converted-named c (block + to.blocks + x.blocks) level w t (new_value c level))),
           );
         }
@@ -666,8 +688,10 @@ module _ (F O : ℕ) where
             (
               tt,
               named-then
-                  (computing c level (step_op operator) (new_value c level) (old_value c level) one) _
-                  (computing-named c level (step_op operator) (new_value c level) (old_value c level) one)
+                  (computing c level (step_type operator (Integer t)) (step_op operator) (new_value c level)
+                  (old_value c level) one) _
+                  (computing-named c level (step_type operator (Integer t)) (step_op operator) (new_value c level)
+                  (old_value c level) one)
                   (tt, step-value-named operator (block + to.blocks) level w t),
             ),
           );

@@ -8,7 +8,7 @@ use Rattle.std.proofs.lemmas.List.Elements.{All-from_recursion, All-map, recursi
 use Rattle.std.proofs.lemmas.Bool.{false≢true}
 use Rattle.pcc_base.proofs.Lists.{all-at}
 use Rattle.c_tree.specs.declared.types.IntegerType.{IntegerType}
-use Rattle.c_tree.specs.declared.types.IntegerType.TheVariants.{Char, Short, Int}
+use Rattle.c_tree.specs.declared.types.IntegerType.TheVariants.{Char, Short, Int, UnsignedInt}
 use Rattle.c_tree.specs.Program.{Function, LocalArray, Program}
 use Rattle.c_tree.specs.Sizes.{bytes_of}
 use Rattle.c_tree.specs.WellTyped.{IsTypedFunction}
@@ -234,6 +234,7 @@ width-fits : (t : IntegerType) → (bytes_of t ≡ 1) ⊎ (bytes_of t ≡ 2) ⊎
 width-fits Char = inl refl
 width-fits Short = inr (inl refl)
 width-fits Int = inr (inr refl)
+width-fits UnsignedInt = inr (inr refl)
 
 arrays-fit : (arrays : List LocalArray) → AllByRecursion (λ a. 1 ≤ a.count) arrays
     → AllByRecursion IsArray (map array_of arrays)

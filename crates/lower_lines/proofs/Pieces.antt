@@ -2,6 +2,7 @@
 use Rattle.std.proofs.Common.{◌≡◌, ℕ, suc, ◌+◌, Bool, true, false, pos, List, [], ◌∷◌, ◌++◌, Option, Some, None}
 use Rattle.std.proofs.Common.{refl, arith}
 use Rattle.std.specs.Prelude.{if◌then◌else◌, ◌==◌}
+use Rattle.std.proofs.lemmas.Bool.{cond_both}
 use Rattle.c_tree.specs.declared.expression.BinaryOp.{BinaryOp}
 use Rattle.c_tree.specs.declared.expression.BinaryOp.TheVariants.{Multiply, Divide, Remainder, Add, Subtract}
 use Rattle.c_tree.specs.declared.expression.BinaryOp.TheVariants.{ShiftLeft}
@@ -9,14 +10,19 @@ use Rattle.c_tree.specs.declared.expression.BinaryOp.TheVariants.{ShiftRight, Le
 use Rattle.c_tree.specs.declared.expression.BinaryOp.TheVariants.{GreaterOrEqual, Equal, NotEqual, BitAnd, BitXor}
 use Rattle.c_tree.specs.declared.expression.BinaryOp.TheVariants.{BitOr}
 use Rattle.c_tree.specs.declared.types.IntegerType.{IntegerType}
-use Rattle.c_tree.specs.declared.types.IntegerType.TheVariants.{Char, Short, Int}
+use Rattle.c_tree.specs.declared.types.IntegerType.TheVariants.{Char, Short, Int, UnsignedInt}
 use Rattle.c_tree.specs.declared.types.ValueType.{ValueType}
 use Rattle.c_tree.specs.declared.types.ValueType.TheVariants.{Void, Integer, Pointer}
+use Rattle.c_tree.specs.Operators.{is_signed, numbers_type}
 use Rattle.c_tree.specs.WellTyped.{IsScalar}
-use Rattle.flow_graph.specs.declared.op.Comparison.{Comparison}
+use Rattle.flow_graph.specs.declared.op.Comparison.TheVariants.{Lt, Le, Gt, Ge}
+use Rattle.flow_graph.specs.declared.op.Op.{Op}
 use Rattle.flow_graph.specs.declared.op.Op.TheVariants as op
+use Rattle.flow_graph.specs.declared.op.Order.TheVariants as order
+use Rattle.flow_graph.specs.Graphs.{is_end}
 use Rattle.lower_lines.specs.Lines.{Line, Start, Emit}
-use Rattle.lower_lines.specs.Operators.{applied, applied_blocks, branching, comparison_of, computing, equality_test}
+use Rattle.lower_lines.specs.Operators.{NumberTest, WithSigns, WithoutSigns, applied, applied_blocks, branching}
+use Rattle.lower_lines.specs.Operators.{computing, equality_test, order_in, test_of, test_set}
 use Rattle.lower_lines.specs.Operators.{moving, on_numbers, on_pointer, on_pointer_blocks, on_pointers}
 use Rattle.lower_lines.specs.Operators.{on_pointers_blocks}
 use Rattle.lower_lines.specs.Parts.{Wanted, Dropped, Own, ToLocal, Tests, chosen, chosen_blocks, converted_lines}
@@ -62,25 +68,33 @@ pub converting-plain : (c : Context) (level : ℕ) (t : IntegerType) (to from : 
 converting-plain c level Char to from = (refl, (refl, tt))
 converting-plain c level Short to from = (refl, tt)
 converting-plain c level Int to from = copied-plain to from
+converting-plain c level UnsignedInt to from = copied-plain to from
 
-pub computing-plain : (c : Context) (level : ℕ) (operator : BinaryOp) (to x y : ℕ)
-    → IsPlain (computing c level operator to x y)
-computing-plain c level Multiply to x y = (refl, tt)
-computing-plain c level Divide to x y = (refl, (refl, tt))
-computing-plain c level Remainder to x y = (refl, (refl, tt))
-computing-plain c level Add to x y = (refl, tt)
-computing-plain c level Subtract to x y = (refl, tt)
-computing-plain c level ShiftLeft to x y = (refl, (refl, tt))
-computing-plain c level ShiftRight to x y = (refl, (refl, tt))
-computing-plain c level Less to x y = (refl, tt)
-computing-plain c level Greater to x y = (refl, tt)
-computing-plain c level LessOrEqual to x y = (refl, tt)
-computing-plain c level GreaterOrEqual to x y = (refl, tt)
-computing-plain c level Equal to x y = (refl, tt)
-computing-plain c level NotEqual to x y = (refl, tt)
-computing-plain c level BitAnd to x y = (refl, tt)
-computing-plain c level BitXor to x y = (refl, tt)
-computing-plain c level BitOr to x y = (refl, tt)
+set-plain : (test : NumberTest) (to x y : ℕ) → is_end (test_set test to x y) ≡ false
+set-plain (WithSigns how) to x y = refl
+set-plain (WithoutSigns how) to x y = refl
+
+pub computing-plain : (c : Context) (level : ℕ) (within : IntegerType) (operator : BinaryOp) (to x y : ℕ)
+    → IsPlain (computing c level within operator to x y)
+computing-plain c level within Multiply to x y = (refl, tt)
+computing-plain c level within Divide to x y =
+    (refl, (cond_both (is_signed within) _ _ (λ (o : Op). is_end o ≡ false) (λ _. refl) (λ _. refl), tt))
+computing-plain c level within Remainder to x y =
+    (refl, (cond_both (is_signed within) _ _ (λ (o : Op). is_end o ≡ false) (λ _. refl) (λ _. refl), tt))
+computing-plain c level within Add to x y = (refl, tt)
+computing-plain c level within Subtract to x y = (refl, tt)
+computing-plain c level within ShiftLeft to x y = (refl, (refl, tt))
+computing-plain c level within ShiftRight to x y =
+    (refl, (cond_both (is_signed within) _ _ (λ (o : Op). is_end o ≡ false) (λ _. refl) (λ _. refl), tt))
+computing-plain c level within Less to x y = (set-plain (order_in within Lt order.Lt) to x y, tt)
+computing-plain c level within Greater to x y = (set-plain (order_in within Gt order.Gt) to x y, tt)
+computing-plain c level within LessOrEqual to x y = (set-plain (order_in within Le order.Le) to x y, tt)
+computing-plain c level within GreaterOrEqual to x y = (set-plain (order_in within Ge order.Ge) to x y, tt)
+computing-plain c level within Equal to x y = (refl, tt)
+computing-plain c level within NotEqual to x y = (refl, tt)
+computing-plain c level within BitAnd to x y = (refl, tt)
+computing-plain c level within BitXor to x y = (refl, tt)
+computing-plain c level within BitOr to x y = (refl, tt)
 
 -- ---- tests
 
@@ -212,19 +226,21 @@ chosen-lays c block level n (Tests holds fails) test h = h block holds fails
 
 -- ---- operators
 
-branching-lays : (block : ℕ) (how : Option Comparison) (w : Wanted) (otherwise : List Line) (x y : ℕ)
-    → Lays block block true (opens w) otherwise → Lays block block true (opens w) (branching how w otherwise x y)
-branching-lays block (Some how) (Tests holds fails) otherwise x y h =
+branching-lays : (block : ℕ) (test : Option NumberTest) (w : Wanted) (otherwise : List Line) (x y : ℕ)
+    → Lays block block true (opens w) otherwise → Lays block block true (opens w) (branching test w otherwise x y)
+branching-lays block (Some (WithSigns how)) (Tests holds fails) otherwise x y h =
     end-lays block block false _ _ refl (none-lays block false)
-branching-lays block (Some how) Dropped otherwise x y h = h
-branching-lays block (Some how) Own otherwise x y h = h
-branching-lays block (Some how) (ToLocal local) otherwise x y h = h
+branching-lays block (Some (WithoutSigns how)) (Tests holds fails) otherwise x y h =
+    end-lays block block false _ _ refl (none-lays block false)
+branching-lays block (Some test) Dropped otherwise x y h = h
+branching-lays block (Some test) Own otherwise x y h = h
+branching-lays block (Some test) (ToLocal local) otherwise x y h = h
 branching-lays block None w otherwise x y h = h
 
-pub on-numbers-lays : (c : Context) (block level : ℕ) (w : Wanted) (operator : BinaryOp) (x y : ℕ)
-    → Lays block block true (opens w) (on_numbers c block level w operator x y)
-on-numbers-lays c block level w operator x y = branching-lays block (comparison_of operator) w _ x y
-    (made-number-lays c block level w Int _ (λ to. computing-plain c level operator to.number x y))
+pub on-numbers-lays : (c : Context) (block level : ℕ) (w : Wanted) (within : IntegerType) (operator : BinaryOp)
+    (x y : ℕ) → Lays block block true (opens w) (on_numbers c block level w within operator x y)
+on-numbers-lays c block level w within operator x y = branching-lays block (test_of within operator) w _ x y
+    (made-number-lays c block level w Int _ (λ to. computing-plain c level within operator to.number x y))
 
 moving-add : (to x : Spot) (n : ℕ) → IsPlain (copied to.array x.array ++ Emit (op.Add to.number x.number n) ∷ [])
 moving-add to x n = plain-append _ _ (copied-plain to.array x.array) (refl, tt)
@@ -280,9 +296,9 @@ on-pointer-lays c block level w BitOr x n = moves-lays c block level w BitOr x n
 
 both-lays : (c : Context) (block level : ℕ) (w : Wanted) (operator : BinaryOp) (x y : Spot)
     → Lays block (block + 0) true (opens w) (Emit (op.Same x.array y.array)
-    ∷ on_numbers c block level w operator x.number y.number)
+    ∷ on_numbers c block level w Int operator x.number y.number)
 both-lays c block level w operator x y = lays-to block block block (block + 0) refl (omega arith)
-    (emit-lays block block (opens w) _ _ refl (on-numbers-lays c block level w operator x.number y.number))
+    (emit-lays block block (opens w) _ _ refl (on-numbers-lays c block level w Int operator x.number y.number))
 
 pub on-pointers-lays : (c : Context) (block level : ℕ) (w : Wanted) (operator : BinaryOp) (x y : Spot)
     → Lays block (block + on_pointers_blocks w operator) true (opens w) (on_pointers c block level w operator x y)
@@ -313,7 +329,7 @@ applied-lays c block level w operator (Integer s) Void x y h k = absurd k
 applied-lays c block level w operator (Pointer s) Void x y h k = absurd k
 applied-lays c block level w operator (Integer s) (Integer t) x y h k =
     lays-to block block block (block + 0) refl (omega arith)
-    (on-numbers-lays c block level w operator x.number y.number)
+    (on-numbers-lays c block level w (numbers_type operator s t) operator x.number y.number)
 applied-lays c block level w operator (Pointer s) (Integer t) x y h k =
     on-pointer-lays c block level w operator x y.number
 applied-lays c block level w operator (Integer s) (Pointer t) x y h k =

@@ -1,14 +1,14 @@
 -- The graphs have their shapes: every block is ended, and frames are within their bound.
 use Rattle.std.proofs.Common.{◌≡◌, ◌≤◌, ◌<◌, ℕ, zero, suc, ◌+◌, ◌*◌, Bool, true, false, List, [], ◌∷◌, true≢false}
 use Rattle.std.proofs.Common.{Some, inl, inr, refl, sym, ap, ◌∙◌, subst, arith, length, length-append, map}
-use Rattle.std.specs.Prelude.{if◌then◌else◌, ◌==◌, ◌⊎◌, slice_get, slice_index_or, sum_by}
+use Rattle.std.specs.Prelude.{if◌then◌else◌, ◌==◌, ◌⊎◌, slice_get, sum_by}
 use Rattle.std.specs.List.{range_with_len}
 use Rattle.std.proofs.lemmas.Bool.Decides.{nat_tests}
 use Rattle.std.proofs.lemmas.List.Elements.{recursion_from_All}
 use Rattle.std.proofs.lemmas.List.Sums.{sum_by-cons}
 use Rattle.std.proofs.lemmas.List.{length-map}
 use Rattle.pcc_base.proofs.Lists.{all-at}
-use Rattle.c_tree.specs.declared.types.IntegerType.TheVariants.{Char, Short, Int}
+use Rattle.c_tree.specs.declared.types.IntegerType.TheVariants.{Char, Short, Int, UnsignedInt}
 use Rattle.c_tree.specs.declared.types.ValueType.{ValueType}
 use Rattle.c_tree.specs.declared.types.ValueType.TheVariants.{Void, Integer, Pointer}
 use Rattle.c_tree.specs.Program.{Function, Local, LocalArray, Program}
@@ -181,6 +181,7 @@ type-widths-few Void = omega arith
 type-widths-few (Integer Char) = omega arith
 type-widths-few (Integer Short) = omega arith
 type-widths-few (Integer Int) = omega arith
+type-widths-few (Integer UnsignedInt) = omega arith
 type-widths-few (Pointer t) = omega arith
 
 local-widths-few : (ls : List Local) → length (local_widths ls) ≤ 2 * length ls

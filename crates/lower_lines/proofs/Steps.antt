@@ -16,9 +16,9 @@ use Rattle.flow_graph.specs.declared.op.Op.TheVariants as op
 use Rattle.flow_graph.specs.Graphs.{Flow, is_end}
 use Rattle.flow_graph.specs.Kinds.{is_turn, marked}
 use Rattle.flow_graph.specs.Meaning.{Moved, Moves, Halts, Stuck, accessed, act, checked, comparison, given}
-use Rattle.flow_graph.specs.Meaning.{into_block, low_byte, no_quotient, onward, one_number, puts, sets, stored}
-use Rattle.flow_graph.specs.Meaning.{divided, gets, loads, puts_scalar, result_to, returns_to, scalar_of, stores}
-use Rattle.flow_graph.specs.Meaning.{two_numbers}
+use Rattle.flow_graph.specs.Meaning.{into_block, low_byte, onward, one_number, ordering, puts, sets, stored}
+use Rattle.flow_graph.specs.Meaning.{divided_unless, gets, loads, puts_scalar, result_to, returns_to, scalar_of}
+use Rattle.flow_graph.specs.Meaning.{stores, two_numbers}
 use Rattle.flow_graph.specs.Running.{outcome_at, outcome_from, run_within, takes_turn, visits_at, visits_of}
 use Rattle.flow_graph.specs.Running.{with_turn}
 use Rattle.flow_graph.specs.States as graph
@@ -27,6 +27,7 @@ use Rattle.flow_graph.specs.States.{value_at, waiting_place, waiting_with, with_
 use Rattle.flow_graph.specs.States.{with_value}
 use Rattle.lower_lines.specs.Following.{Comes, ComesOf, IsSite, Site, Stand, at_start, behind, graphs_of}
 use Rattle.lower_lines.specs.Lines.{Line, Start, Emit}
+use Rattle.lower_lines.specs.Operators.{NumberTest, WithSigns, WithoutSigns, test_branch, test_set}
 use Rattle.lower_lines.specs.Shown.{variables_shown}
 use Rattle.lower_lines.specs.Variables.{variable_widths}
 use Rattle.lower_lines.proofs.Points.{flow-there, next-stands, ops-stand, starts-stand}
@@ -34,6 +35,11 @@ use Rattle.lower_lines.proofs.Points.{flow-there, next-stands, ops-stand, starts
 -- what the marks of the graphs show
 abbrev pub shown_by : Site → Listing
 shown_by S = variables_shown S.program S.listing
+
+-- what a test answers of two variables
+abbrev pub answer_at : NumberTest → graph.State → ℕ → ℕ → Option Bool
+answer_at (WithSigns how) g a b = comparison how g a b
+answer_at (WithoutSigns how) g a b = ordering how g a b
 
 -- ---- one step of a run
 
@@ -207,44 +213,57 @@ module _ (S : Site) (site : IsSite S) (before : List Line) (g : graph.State) (ow
       (λ k. sets (graphs_of S) (behind before g) d (Number (f m k))))) at_a
       ∙ ap (λ (n : Option ℤ). given n (λ k. sets (graphs_of S) (behind before g) d (Number (f x k)))) at_b) r
 
-  -- what `div` and `rem` come to
-  divides : (d a b : ℕ) (f : ℤ → ℤ → ℤ) (x y : ℤ) (traps : Bool) → number_at g a ≡ Some x → number_at g b ≡ Some y
-      → no_quotient x y ≡ traps → divided (graphs_of S) (behind before g) d a b f
+  -- what an op on two numbers comes to that traps for some of them
+  divides : (fails : ℤ → ℤ → Bool) (d a b : ℕ) (f : ℤ → ℤ → ℤ) (x y : ℤ) (traps : Bool) → number_at g a ≡ Some x
+      → number_at g b ≡ Some y → fails x y ≡ traps → divided_unless fails (graphs_of S) (behind before g) d a b f
       ≡ (if traps then Halts (Trapped Divide) else sets (graphs_of S) (behind before g) d (Number (f x y)))
-  divides d a b f x y traps at_a at_b e =
+  divides fails d a b f x y traps at_a at_b e =
       ap (λ (n : Option ℤ). given n (λ m. given (number_at g b)
-      (λ k. if no_quotient m k then Halts (Trapped Divide)
+      (λ k. if fails m k then Halts (Trapped Divide)
       else sets (graphs_of S) (behind before g) d (Number (f m k))))) at_a
-      ∙ ap (λ (n : Option ℤ). given n (λ k. if no_quotient x k then Halts (Trapped Divide)
+      ∙ ap (λ (n : Option ℤ). given n (λ k. if fails x k then Halts (Trapped Divide)
       else sets (graphs_of S) (behind before g) d (Number (f x k)))) at_b
       ∙ ap (λ (t : Bool). if t then Halts (Trapped Divide) else sets (graphs_of S) (behind before g) d (Number (f x y)))
       e
 
-  pub divide-step : (i : Op) (d a b : ℕ) (f : ℤ → ℤ → ℤ) (x y : ℤ) (turns : ℕ) (o : Outcome)
+  pub divide-step : (fails : ℤ → ℤ → Bool) (i : Op) (d a b : ℕ) (f : ℤ → ℤ → ℤ) (x y : ℤ) (turns : ℕ) (o : Outcome)
       → Stand S before (Emit i ∷ []) → is_turn i ≡ false → marked i ≡ None → is_end i ≡ false
-      → act (graphs_of S) (behind before g) i ≡ divided (graphs_of S) (behind before g) d a b f
-      → number_at g a ≡ Some x → number_at g b ≡ Some y → no_quotient x y ≡ false
+      → act (graphs_of S) (behind before g) i ≡ divided_unless fails (graphs_of S) (behind before g) d a b f
+      → number_at g a ≡ Some x → number_at g b ≡ Some y → fails x y ≡ false
       → Comes S turns (past i (with_value d (Number (f x y)) g)) o → Comes S turns (behind before g) o
-  divide-step i d a b f x y turns o stands plain unmarked goes does at_a at_b quotient r =
+  divide-step fails i d a b f x y turns o stands plain unmarked goes does at_a at_b quotient r =
       sets-step i d (Number (f x y)) turns o stands plain unmarked goes
-      (does ∙ divides d a b f x y false at_a at_b quotient) r
+      (does ∙ divides fails d a b f x y false at_a at_b quotient) r
 
-  pub divide-traps : (i : Op) (d a b : ℕ) (f : ℤ → ℤ → ℤ) (x y : ℤ) (turns : ℕ) → Stand S before (Emit i ∷ [])
-      → is_turn i ≡ false → marked i ≡ None
-      → act (graphs_of S) (behind before g) i ≡ divided (graphs_of S) (behind before g) d a b f
-      → number_at g a ≡ Some x → number_at g b ≡ Some y → no_quotient x y ≡ true
+  pub divide-traps : (fails : ℤ → ℤ → Bool) (i : Op) (d a b : ℕ) (f : ℤ → ℤ → ℤ) (x y : ℤ) (turns : ℕ)
+      → Stand S before (Emit i ∷ []) → is_turn i ≡ false → marked i ≡ None
+      → act (graphs_of S) (behind before g) i ≡ divided_unless fails (graphs_of S) (behind before g) d a b f
+      → number_at g a ≡ Some x → number_at g b ≡ Some y → fails x y ≡ true
       → Comes S turns (behind before g) (outcome_at g (Trapped Divide))
-  divide-traps i d a b f x y turns stands plain unmarked does at_a at_b quotient =
-      end-step i (Trapped Divide) turns stands plain unmarked (does ∙ divides d a b f x y true at_a at_b quotient)
+  divide-traps fails i d a b f x y turns stands plain unmarked does at_a at_b quotient =
+      end-step i (Trapped Divide) turns stands plain unmarked
+      (does ∙ divides fails d a b f x y true at_a at_b quotient)
 
-  pub set-step : (how : Comparison) (d a b : ℕ) (holds : Bool) (turns : ℕ) (o : Outcome)
-      → Stand S before (Emit (op.Set how d a b) ∷ []) → comparison how g a b ≡ Some holds
-      → Comes S turns (past (op.Set how d a b) (with_value d (Number (if holds then pos 1 else pos 0)) g)) o
+  -- an op that gives a variable a truth value
+  truth-step : (i : Op) (d : ℕ) (asked : Option Bool) (holds : Bool) (turns : ℕ) (o : Outcome)
+      → Stand S before (Emit i ∷ []) → is_turn i ≡ false → marked i ≡ None → is_end i ≡ false
+      → act (graphs_of S) (behind before g) i
+      ≡ given asked (λ h. sets (graphs_of S) (behind before g) d (Number (if h then pos 1 else pos 0)))
+      → asked ≡ Some holds → Comes S turns (past i (with_value d (Number (if holds then pos 1 else pos 0)) g)) o
       → Comes S turns (behind before g) o
-  set-step how d a b holds turns o stands compares r =
-      sets-step (op.Set how d a b) d (Number (if holds then pos 1 else pos 0)) turns o stands refl refl refl
-      (ap (λ (c : Option Bool). given c
-      (λ h. sets (graphs_of S) (behind before g) d (Number (if h then pos 1 else pos 0)))) compares) r
+  truth-step i d asked holds turns o stands plain unmarked goes does answers r =
+      sets-step i d (Number (if holds then pos 1 else pos 0)) turns o stands plain unmarked goes
+      (does ∙ ap (λ (c : Option Bool). given c
+      (λ h. sets (graphs_of S) (behind before g) d (Number (if h then pos 1 else pos 0)))) answers) r
+
+  pub set-step : (test : NumberTest) (d a b : ℕ) (holds : Bool) (turns : ℕ) (o : Outcome)
+      → Stand S before (Emit (test_set test d a b) ∷ []) → answer_at test g a b ≡ Some holds
+      → Comes S turns (past (test_set test d a b) (with_value d (Number (if holds then pos 1 else pos 0)) g)) o
+      → Comes S turns (behind before g) o
+  set-step (WithSigns how) d a b holds turns o stands answers r =
+      truth-step (op.Set how d a b) d (comparison how g a b) holds turns o stands refl refl refl refl answers r
+  set-step (WithoutSigns how) d a b holds turns o stands answers r =
+      truth-step (op.Setu how d a b) d (ordering how g a b) holds turns o stands refl refl refl refl answers r
 
   -- ---- arrays
 
@@ -308,16 +327,38 @@ module _ (S : Site) (site : IsSite S) (before : List Line) (g : graph.State) (ow
       (ops-stand S site before (op.Jump block) g stands own) refl refl
       (starts-stand S site other block (behind before g) there own).0 r
 
+  -- an op that goes to either of two blocks
+  either-step : (i : Op) (yes' no' : ℕ) (asked : Option Bool) (holds : Bool) (turns : ℕ) (o : Outcome)
+      (other : List Line) → Stand S before (Emit i ∷ []) → is_turn i ≡ false → marked i ≡ None
+      → act (graphs_of S) (behind before g) i
+      ≡ given asked (λ h. into_block (graphs_of S) (if h then yes' else no') (behind before g)) → asked ≡ Some holds
+      → Stand S other (Start (if holds then yes' else no') ∷ [])
+      → Comes S turns (at_start S (if holds then yes' else no') g) o → Comes S turns (behind before g) o
+  either-step i yes' no' asked holds turns o other stands plain unmarked does answers there r =
+      comes-plain S (behind before g) (at_start S (if holds then yes' else no') g) i turns o
+      (ops-stand S site before i g stands own) plain unmarked
+      (does
+      ∙ ap (λ (c : Option Bool). given c (λ h. into_block (graphs_of S) (if h then yes' else no') (behind before g)))
+      answers
+      ∙ (starts-stand S site other (if holds then yes' else no') (behind before g) there own).0) r
+
   pub branch-step : (how : Comparison) (a b yes' no' : ℕ) (holds : Bool) (turns : ℕ) (o : Outcome) (other : List Line)
       → Stand S before (Emit (op.Branch how a b yes' no') ∷ []) → comparison how g a b ≡ Some holds
       → Stand S other (Start (if holds then yes' else no') ∷ [])
       → Comes S turns (at_start S (if holds then yes' else no') g) o → Comes S turns (behind before g) o
   branch-step how a b yes' no' holds turns o other stands compares there r =
-      comes-plain S (behind before g) (at_start S (if holds then yes' else no') g) (op.Branch how a b yes' no') turns o
-      (ops-stand S site before (op.Branch how a b yes' no') g stands own) refl refl
-      (ap (λ (c : Option Bool). given c (λ h. into_block (graphs_of S) (if h then yes' else no') (behind before g)))
-      compares
-      ∙ (starts-stand S site other (if holds then yes' else no') (behind before g) there own).0) r
+      either-step (op.Branch how a b yes' no') yes' no' (comparison how g a b) holds turns o other stands refl refl refl
+      compares there r
+
+  pub test-step : (test : NumberTest) (a b yes' no' : ℕ) (holds : Bool) (turns : ℕ) (o : Outcome) (other : List Line)
+      → Stand S before (Emit (test_branch test a b yes' no') ∷ []) → answer_at test g a b ≡ Some holds
+      → Stand S other (Start (if holds then yes' else no') ∷ [])
+      → Comes S turns (at_start S (if holds then yes' else no') g) o → Comes S turns (behind before g) o
+  test-step (WithSigns how) a b yes' no' holds turns o other stands answers there r =
+      branch-step how a b yes' no' holds turns o other stands answers there r
+  test-step (WithoutSigns how) a b yes' no' holds turns o other stands answers there r =
+      either-step (op.Branchu how a b yes' no') yes' no' (ordering how g a b) holds turns o other stands refl refl refl
+      answers there r
 
   -- ---- elements: `reaches` says that the array is there, with elements of this width
 

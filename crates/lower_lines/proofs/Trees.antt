@@ -42,7 +42,7 @@ module _ (p : Program) (f : Function) (all : All (IsTypedFunction p) p.functions
     laid (Start element array) h = start-laid c element array
     laid (Read of place) h = read-laid c of (place_of c place) (laid-place place of h)
     laid (Address element place) h = address-laid c element (place_of c place) (laid-place place (Integer element) h.1)
-    laid (Unary of operator e) h = unary-laid c operator (part_of c e) (laid e h.0)
+    laid (Unary of operator e) h = unary-laid c of operator (part_of c e) (laid e h.0)
         (scalar-part e h.0 (unary-scalar operator (value_type e) of h.1))
     laid (Binary of operator a b) h =
         let (s, t) = binary-scalars operator (value_type a) (value_type b) of h.2 in

@@ -1,5 +1,5 @@
 -- The parts of a typed expression have its type.
-use Rattle.std.proofs.Common.{◌≡◌, ℕ, Option, Some, None, refl, sym, ap, ◌∙◌, subst}
+use Rattle.std.proofs.Common.{◌≡◌, ℕ, Option, Some, None, refl, sym, ◌∙◌, subst}
 use Rattle.std.specs.Prelude.{IsSomeAnd, slice_get}
 use Rattle.std.proofs.lemmas.List.Elements.{recursion_from_All}
 use Rattle.pcc_base.proofs.Lists.{all-at}
@@ -10,10 +10,9 @@ use Rattle.c_tree.specs.declared.expression.StepOp.TheVariants.{PostDecrement}
 use Rattle.c_tree.specs.declared.expression.UnaryOp.{UnaryOp}
 use Rattle.c_tree.specs.declared.expression.UnaryOp.TheVariants.{Plus, Minus, Complement, Not}
 use Rattle.c_tree.specs.declared.types.IntegerType.{IntegerType}
-use Rattle.c_tree.specs.declared.types.IntegerType.TheVariants.{Int}
 use Rattle.c_tree.specs.declared.types.ValueType.{ValueType}
 use Rattle.c_tree.specs.declared.types.ValueType.TheVariants.{Void, Integer, Pointer}
-use Rattle.c_tree.specs.Program.{int, value_type, Expression, Constant, Start, Read, Address, Unary, Binary, And, Or}
+use Rattle.c_tree.specs.Program.{value_type, Expression, Constant, Start, Read, Address, Unary, Binary, And, Or}
 use Rattle.c_tree.specs.Program.{Conditional, Cast, Assign, Update, Step, Comma, Call, Putchar, Getchar, Exit, Place}
 use Rattle.c_tree.specs.Program.{LocalPlace, StaticPlace, Target, Element, Local, Function, Program}
 use Rattle.c_tree.specs.WellTyped.{BinaryGives, CanAssign, CanCast, CanUpdate, ConditionalGives, IsPlace, IsScalar}
@@ -31,11 +30,6 @@ use Rattle.lower_lines.proofs.Constructs.{Turns, assigned-type, local-type}
 pub some-and : {T : Type 0} (o : Option T) (P : T → Type 0) → IsSomeAnd o P → (x : T) × (o ≡ Some x) × P x
 some-and None P h = absurd h
 some-and (Some x) P h = (x, refl, h)
-
-pub unary-int : (operator : UnaryOp) (s : ValueType) (of : IntegerType) → UnaryGives operator s of → of ≡ Int
-unary-int operator Void of h = absurd h
-unary-int operator (Integer t) of h = h
-unary-int operator (Pointer t) of h = h.1
 
 pub unary-scalar : (operator : UnaryOp) (s : ValueType) (of : IntegerType) → UnaryGives operator s of → IsScalar s
 unary-scalar operator Void of h = absurd h
@@ -152,11 +146,11 @@ module _ (p : Program) (f : Function) where
   step-type of operator (Target element e) h = h.2
   step-type of operator (Element element x i) h = h.3
 
-  unary-type : (operator : UnaryOp) (a : Part) → (unary_part c operator a).of ≡ int
-  unary-type Plus a = refl
-  unary-type Minus a = refl
-  unary-type Complement a = refl
-  unary-type Not a = refl
+  unary-of : (of : IntegerType) (operator : UnaryOp) (a : Part) → (unary_part c of operator a).of ≡ Integer of
+  unary-of of Plus a = refl
+  unary-of of Minus a = refl
+  unary-of of Complement a = refl
+  unary-of of Not a = refl
 
   address-type : (element : IntegerType) (l : Located) → (address_part c element l).of ≡ Pointer element
   address-type element (AtLocal v) = local-type c (Pointer element) v
@@ -168,8 +162,7 @@ module _ (p : Program) (f : Function) where
   part-type (Start element array) h = refl
   part-type (Read of place) h = read-type of place h
   part-type (Address element place) h = address-type element (place_of c place)
-  part-type (Unary of operator e) h =
-      unary-type operator (part_of c e) ∙ ap Integer (sym (unary-int operator (value_type e) of h.1))
+  part-type (Unary of operator e) h = unary-of of operator (part_of c e)
   part-type (Binary of operator a b) h = refl
   part-type (And a b) h = refl
   part-type (Or a b) h = refl

@@ -12,10 +12,10 @@ use Rattle.c_tree.specs.declared.expression.StepOp.TheVariants.{PostDecrement}
 use Rattle.c_tree.specs.declared.expression.UnaryOp.{UnaryOp}
 use Rattle.c_tree.specs.declared.expression.UnaryOp.TheVariants.{Plus, Minus, Complement, Not}
 use Rattle.c_tree.specs.declared.types.IntegerType.{IntegerType}
-use Rattle.c_tree.specs.declared.types.IntegerType.TheVariants.{Char, Short, Int}
+use Rattle.c_tree.specs.declared.types.IntegerType.TheVariants.{Char, Short, Int, UnsignedInt}
 use Rattle.c_tree.specs.declared.types.ValueType.{ValueType}
 use Rattle.c_tree.specs.declared.types.ValueType.TheVariants.{Void, Integer, Pointer}
-use Rattle.c_tree.specs.Operators.{step_op}
+use Rattle.c_tree.specs.Operators.{step_op, step_type, working_type}
 use Rattle.c_tree.specs.Program.{int, Expression, Constant, Start as StartOf, Read, Address, Unary, Binary, And, Or}
 use Rattle.c_tree.specs.Program.{Conditional, Cast, Assign, Update, Step, Comma, Call, Putchar, Getchar, Exit, Place}
 use Rattle.c_tree.specs.Program.{LocalPlace, StaticPlace, Target, Element, Local, Arguments, Argument, NoMore}
@@ -135,6 +135,9 @@ module _ (W : ℕ) (c : Context) where
   local-weighs (Integer Int) local = record {
     weighs = λ block level w. reading-weighs block level w (Integer Int) (local_spot c local);
   }
+  local-weighs (Integer UnsignedInt) local = record {
+    weighs = λ block level w. reading-weighs block level w (Integer UnsignedInt) (local_spot c local);
+  }
   local-weighs (Pointer t) local = record {
     weighs = λ block level w. reading-weighs block level w (Pointer t) (local_spot c local);
   }
@@ -173,14 +176,18 @@ module _ (W : ℕ) (c : Context) where
       lines block level (Tests holds fails) = weighs-to n k (n + 4) (k + 0) (omega arith) (omega arith)
           (h.weighs block level (Tests fails holds))
 
-  pub unary-weighs : (n k : ℕ) (operator : UnaryOp) (a : Part) → WeighsPart n k a
-      → WeighsPart (n + 4) (k + 0) (unary_part c operator a)
-  unary-weighs n k Plus a h = record {
+  pub unary-weighs : (n k : ℕ) (of : IntegerType) (operator : UnaryOp) (a : Part) → WeighsPart n k a
+      → WeighsPart (n + 4) (k + 0) (unary_part c of operator a)
+  unary-weighs n k of Plus a h = record {
     weighs = λ block level w. weighs-to n k (n + 4) (k + 0) (omega arith) (omega arith) (h.weighs block level w);
   }
-  unary-weighs n k Minus a h = number-weighs n k op.Neg a (λ d s. refl) (λ d s. refl) h
-  unary-weighs n k Complement a h = number-weighs n k op.Not a (λ d s. refl) (λ d s. refl) h
-  unary-weighs n k Not a h = negated-weighs n k a h
+  unary-weighs n k of Minus a h = record {
+    weighs = (number-weighs n k op.Neg a (λ d s. refl) (λ d s. refl) h).weighs;
+  }
+  unary-weighs n k of Complement a h = record {
+    weighs = (number-weighs n k op.Not a (λ d s. refl) (λ d s. refl) h).weighs;
+  }
+  unary-weighs n k of Not a h = record { weighs = (negated-weighs n k a h).weighs }
 
   pub binary-weighs : (n k m l : ℕ) (of : ValueType) (operator : BinaryOp) (a b : Part) → WeighsPart n k a
       → WeighsPart m l b → WeighsPart (n + (m + 7)) (k + (l + 0)) (binary_part c of operator a b)
@@ -282,6 +289,7 @@ module _ (W : ℕ) (c : Context) where
   turned-weighs n k (Integer Char) a h = narrowed-weighs n k Char a h
   turned-weighs n k (Integer Short) a h = narrowed-weighs n k Short a h
   turned-weighs n k (Integer Int) a h = part-to n k (n + 5) k (omega arith) (omega arith) h
+  turned-weighs n k (Integer UnsignedInt) a h = part-to n k (n + 5) k (omega arith) (omega arith) h
   turned-weighs n k (Pointer t) a h = pointer-weighs n k t a.of a h
 
   pub cast-weighs : (n k : ℕ) (of : ValueType) (a : Part) → WeighsPart n k a → WeighsPart (n + 5) k (cast_part c of a)
@@ -447,6 +455,9 @@ module _ (W : ℕ) (c : Context) where
   assigned-local-weighs n k (Integer Int) local a h = record {
     weighs = into-local-weighs n k (Integer Int) local a (turned-weighs n k (Integer Int) a h);
   }
+  assigned-local-weighs n k (Integer UnsignedInt) local a h = record {
+    weighs = into-local-weighs n k (Integer UnsignedInt) local a (turned-weighs n k (Integer UnsignedInt) a h);
+  }
   assigned-local-weighs n k (Pointer t) local a h = record {
     weighs = into-local-weighs n k (Pointer t) local a (turned-weighs n k (Pointer t) a h);
   }
@@ -496,6 +507,7 @@ module _ (W : ℕ) (c : Context) where
       → WeighsPart (m + suc (n + (2 + suc 5))) (l + (k + (0 + 0))) (updated_element c t operator to a)
   updated-element-weighs m l n k t operator to a h h' =
       let x = operand c true a in
+      let within = working_type operator (Integer t) a.of in
       record {
         weighs = λ block level w.
             let at = to.spot a.simple level in
@@ -506,8 +518,9 @@ module _ (W : ℕ) (c : Context) where
             (quiet-then W n k (2 + suc 5) (0 + 0) (x.lines (block + to.blocks) (suc level)) _
             ((operand-weighs n k true a h').weighs (block + to.blocks) (suc level))
             (quiet-then W 2 0 (suc 5) 0
-            (computing c level operator (new_value c level) (old_value c level) (x.spot (suc level)).number) _
-            (computing-weighs W c level operator (new_value c level) (old_value c level) (x.spot (suc level)).number)
+            (computing c level within operator (new_value c level) (old_value c level) (x.spot (suc level)).number) _
+            (computing-weighs W c level within operator (new_value c level) (old_value c level)
+            (x.spot (suc level)).number)
             (weighs-op W 5 0 [] (op.Store (bits_of t) at.array at.number (new_value c level)) _ refl refl
             (converted-weighs W c (block + to.blocks + x.blocks) level w t (new_value c level))))));
       }
@@ -591,8 +604,10 @@ module _ (W : ℕ) (c : Context) where
         (weighs-op W (suc (2 + suc 5)) (0 + 0) [] (op.Load (bits_of t)
         (old_value c level) at.array at.number) _ refl refl
         (weighs-op W (2 + suc 5) (0 + 0) [] (op.Const one (pos 1)) _ refl refl
-        (quiet-then W 2 0 (suc 5) 0 (computing c level (step_op operator) (new_value c level) (old_value c level) one) _
-        (computing-weighs W c level (step_op operator) (new_value c level) (old_value c level) one)
+        (quiet-then W 2 0 (suc 5) 0
+        (computing c level (step_type operator (Integer t)) (step_op operator) (new_value c level) (old_value c level) one) _
+        (computing-weighs W c level (step_type operator (Integer t)) (step_op operator) (new_value c level)
+        (old_value c level) one)
         (weighs-op W 5 0 [] (op.Store (bits_of t) at.array at.number (new_value c level)) _ refl refl
         (step-value-weighs operator (block + to.blocks) level w t)))));
   }
@@ -787,7 +802,7 @@ module _ (W : ℕ) (c : Context) where
           k = h.k + 0;
           few = let e = h.few in omega (arith, e);
           fewer = let e = h.fewer in omega (arith, e);
-          is = unary-weighs h.n h.k operator (part_of c e) h.is;
+          is = unary-weighs h.n h.k of operator (part_of c e) h.is;
         }
     weighed (Binary of operator a b) le =
         let h = weighed a (omega (arith, le)) in

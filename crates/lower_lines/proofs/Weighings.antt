@@ -4,7 +4,7 @@ use Rattle.std.proofs.Common.{Option, Some, None, refl, arith, length, map, take
 use Rattle.std.specs.Prelude.{if◌then◌else◌, sum_by}
 use Rattle.std.proofs.lemmas.List.Sums.{sum_by-cons}
 use Rattle.c_tree.specs.declared.types.IntegerType.{IntegerType}
-use Rattle.c_tree.specs.declared.types.IntegerType.TheVariants.{Char, Short, Int}
+use Rattle.c_tree.specs.declared.types.IntegerType.TheVariants.{Char, Short, Int, UnsignedInt}
 use Rattle.c_tree.specs.declared.types.ValueType.{ValueType}
 use Rattle.c_tree.specs.declared.types.ValueType.TheVariants.{Void, Integer, Pointer}
 use Rattle.c_tree.specs.Evaluation.{type_at}
@@ -340,6 +340,8 @@ module _ (W : ℕ) (c : Context) where
       (refl, refl, (refl, refl, tt)) (omega arith)
   parameter-weighs (Integer Int) spot word = quiet-ops W 2 (parameter_of c (Integer Int) spot word) (refl, refl, tt)
       (omega arith)
+  parameter-weighs (Integer UnsignedInt) spot word = quiet-ops W 2 (parameter_of c (Integer UnsignedInt) spot word)
+      (refl, refl, tt) (omega arith)
   parameter-weighs (Pointer t) spot word = quiet-ops W 2 (parameter_of c (Pointer t) spot word)
       (refl, refl, (refl, refl, tt)) (omega arith)
 

@@ -1,6 +1,7 @@
 -- What lines weigh: how many points they have, how many argument words, at most and in all, and which marks.
 use Rattle.std.proofs.Common.{◌≡◌, ◌≤◌, ℕ, suc, ◌+◌, max, Bool, true, false, pos, List, [], ◌∷◌, ◌++◌, Option}
 use Rattle.std.proofs.Common.{Some, None, refl, sym, ap, ◌∙◌, arith, length}
+use Rattle.std.proofs.lemmas.Bool.{cond_both}
 use Rattle.std.proofs.lemmas.List.Sums.{sum_by-cons}
 use Rattle.std.specs.Prelude.{sum_by, if◌then◌else◌, ◌==◌}
 use Rattle.c_tree.specs.declared.expression.BinaryOp.{BinaryOp}
@@ -10,18 +11,21 @@ use Rattle.c_tree.specs.declared.expression.BinaryOp.TheVariants.{ShiftRight, Le
 use Rattle.c_tree.specs.declared.expression.BinaryOp.TheVariants.{GreaterOrEqual, Equal, NotEqual, BitAnd, BitXor}
 use Rattle.c_tree.specs.declared.expression.BinaryOp.TheVariants.{BitOr}
 use Rattle.c_tree.specs.declared.types.IntegerType.{IntegerType}
-use Rattle.c_tree.specs.declared.types.IntegerType.TheVariants.{Char, Short, Int}
+use Rattle.c_tree.specs.declared.types.IntegerType.TheVariants.{Char, Short, Int, UnsignedInt}
 use Rattle.c_tree.specs.declared.types.ValueType.{ValueType}
 use Rattle.c_tree.specs.declared.types.ValueType.TheVariants.{Void, Integer, Pointer}
+use Rattle.c_tree.specs.Operators.{is_signed, numbers_type}
 use Rattle.c_tree.specs.Program.{int}
-use Rattle.flow_graph.specs.declared.op.Comparison.{Comparison}
+use Rattle.flow_graph.specs.declared.op.Comparison.TheVariants.{Lt, Le, Gt, Ge}
 use Rattle.flow_graph.specs.declared.op.Op.{Op}
 use Rattle.flow_graph.specs.declared.op.Op.TheVariants as op
+use Rattle.flow_graph.specs.declared.op.Order.TheVariants as order
 use Rattle.flow_graph.specs.Kinds.{marked}
 use Rattle.flow_graph.specs.Sizes.{most_words, words_of}
 use Rattle.lower_lines.specs.Lines.{Line, Start, Emit, ops_in}
 use Rattle.lower_lines.specs.Lowering.{mark_of, marks_in}
-use Rattle.lower_lines.specs.Operators.{applied, branching, comparison_of, computing, equality_test}
+use Rattle.lower_lines.specs.Operators.{NumberTest, WithSigns, WithoutSigns, applied, branching, computing}
+use Rattle.lower_lines.specs.Operators.{equality_test, order_in, test_of, test_set}
 use Rattle.lower_lines.specs.Operators.{moving, on_numbers, on_pointer, on_pointers}
 use Rattle.lower_lines.specs.Parts.{Wanted, Dropped, Own, ToLocal, Tests, chosen, converted_lines}
 use Rattle.lower_lines.specs.Parts.{converting, delivered, made, null_lines, number_test, pointer_test, target}
@@ -129,6 +133,9 @@ weighs-mark W n k m marks lines h = record {
 
 -- ---- ops without words and marks
 
+abbrev IsQuietOp : Op → Type 0
+IsQuietOp i = (words_of i ≡ 0) × (marked i ≡ None)
+
 abbrev pub IsQuiet : List Line → Type 0
 IsQuiet [] = Unit {0}
 IsQuiet (Start b ∷ lines) = IsQuiet lines
@@ -174,37 +181,46 @@ module _ (W : ℕ) where
   converting-weighs c level Short to from = quiet-ops W 2 (converting c level Short to from) (refl, refl, tt)
       (omega arith)
   converting-weighs c level Int to from = weighs-to 1 0 2 0 (omega arith) (omega arith) (copied-weighs to from)
+  converting-weighs c level UnsignedInt to from = weighs-to 1 0 2 0 (omega arith) (omega arith) (copied-weighs to from)
 
-  pub computing-weighs : (c : Context) (level : ℕ) (operator : BinaryOp) (to x y : ℕ)
-      → Quiet W 2 0 (computing c level operator to x y)
-  computing-weighs c level Divide to x y = quiet-ops W 2 (computing c level Divide to x y)
+  -- two ops, of which the first is quiet
+  two-ops : (i j : Op) → IsQuietOp i → IsQuietOp j → Quiet W 2 0 (Emit i ∷ Emit j ∷ [])
+  two-ops i j h k = quiet-ops W 2 (Emit i ∷ Emit j ∷ []) (h.0, h.1, (k.0, k.1, tt)) (omega arith)
+
+  set-weighs : (test : NumberTest) (to x y : ℕ) → Quiet W 2 0 (Emit (test_set test to x y) ∷ [])
+  set-weighs (WithSigns how) to x y = quiet-ops W 2 (Emit (op.Set how to x y) ∷ []) (refl, refl, tt) (omega arith)
+  set-weighs (WithoutSigns how) to x y = quiet-ops W 2 (Emit (op.Setu how to x y) ∷ []) (refl, refl, tt) (omega arith)
+
+  pub computing-weighs : (c : Context) (level : ℕ) (within : IntegerType) (operator : BinaryOp) (to x y : ℕ)
+      → Quiet W 2 0 (computing c level within operator to x y)
+  computing-weighs c level within Divide to x y = two-ops _ _ (refl, refl)
+      (cond_both (is_signed within) _ _ IsQuietOp (λ _. (refl, refl)) (λ _. (refl, refl)))
+  computing-weighs c level within Remainder to x y = two-ops _ _ (refl, refl)
+      (cond_both (is_signed within) _ _ IsQuietOp (λ _. (refl, refl)) (λ _. (refl, refl)))
+  computing-weighs c level within ShiftLeft to x y = quiet-ops W 2 (computing c level within ShiftLeft to x y)
       (refl, refl, (refl, refl, tt)) (omega arith)
-  computing-weighs c level Remainder to x y = quiet-ops W 2 (computing c level Remainder to x y)
-      (refl, refl, (refl, refl, tt)) (omega arith)
-  computing-weighs c level ShiftLeft to x y = quiet-ops W 2 (computing c level ShiftLeft to x y)
-      (refl, refl, (refl, refl, tt)) (omega arith)
-  computing-weighs c level ShiftRight to x y = quiet-ops W 2 (computing c level ShiftRight to x y)
-      (refl, refl, (refl, refl, tt)) (omega arith)
-  computing-weighs c level Multiply to x y = quiet-ops W 2 (computing c level Multiply to x y) (refl, refl, tt)
-      (omega arith)
-  computing-weighs c level Add to x y = quiet-ops W 2 (computing c level Add to x y) (refl, refl, tt) (omega arith)
-  computing-weighs c level Subtract to x y = quiet-ops W 2 (computing c level Subtract to x y) (refl, refl, tt)
-      (omega arith)
-  computing-weighs c level Less to x y = quiet-ops W 2 (computing c level Less to x y) (refl, refl, tt) (omega arith)
-  computing-weighs c level Greater to x y = quiet-ops W 2 (computing c level Greater to x y) (refl, refl, tt)
-      (omega arith)
-  computing-weighs c level LessOrEqual to x y = quiet-ops W 2 (computing c level LessOrEqual to x y) (refl, refl, tt)
-      (omega arith)
-  computing-weighs c level GreaterOrEqual to x y = quiet-ops W 2 (computing c level GreaterOrEqual to x y)
+  computing-weighs c level within ShiftRight to x y = two-ops _ _ (refl, refl)
+      (cond_both (is_signed within) _ _ IsQuietOp (λ _. (refl, refl)) (λ _. (refl, refl)))
+  computing-weighs c level within Multiply to x y = quiet-ops W 2 (computing c level within Multiply to x y)
       (refl, refl, tt) (omega arith)
-  computing-weighs c level Equal to x y = quiet-ops W 2 (computing c level Equal to x y) (refl, refl, tt) (omega arith)
-  computing-weighs c level NotEqual to x y = quiet-ops W 2 (computing c level NotEqual to x y) (refl, refl, tt)
-      (omega arith)
-  computing-weighs c level BitAnd to x y = quiet-ops W 2 (computing c level BitAnd to x y) (refl, refl, tt)
-      (omega arith)
-  computing-weighs c level BitXor to x y = quiet-ops W 2 (computing c level BitXor to x y) (refl, refl, tt)
-      (omega arith)
-  computing-weighs c level BitOr to x y = quiet-ops W 2 (computing c level BitOr to x y) (refl, refl, tt) (omega arith)
+  computing-weighs c level within Add to x y = quiet-ops W 2 (computing c level within Add to x y)
+      (refl, refl, tt) (omega arith)
+  computing-weighs c level within Subtract to x y = quiet-ops W 2 (computing c level within Subtract to x y)
+      (refl, refl, tt) (omega arith)
+  computing-weighs c level within Less to x y = set-weighs (order_in within Lt order.Lt) to x y
+  computing-weighs c level within Greater to x y = set-weighs (order_in within Gt order.Gt) to x y
+  computing-weighs c level within LessOrEqual to x y = set-weighs (order_in within Le order.Le) to x y
+  computing-weighs c level within GreaterOrEqual to x y = set-weighs (order_in within Ge order.Ge) to x y
+  computing-weighs c level within Equal to x y = quiet-ops W 2 (computing c level within Equal to x y)
+      (refl, refl, tt) (omega arith)
+  computing-weighs c level within NotEqual to x y = quiet-ops W 2 (computing c level within NotEqual to x y)
+      (refl, refl, tt) (omega arith)
+  computing-weighs c level within BitAnd to x y = quiet-ops W 2 (computing c level within BitAnd to x y)
+      (refl, refl, tt) (omega arith)
+  computing-weighs c level within BitXor to x y = quiet-ops W 2 (computing c level within BitXor to x y)
+      (refl, refl, tt) (omega arith)
+  computing-weighs c level within BitOr to x y = quiet-ops W 2 (computing c level within BitOr to x y)
+      (refl, refl, tt) (omega arith)
 
   -- ---- tests and values
 
@@ -279,22 +295,24 @@ module _ (W : ℕ) where
   chosen-weighs c block level n (Tests holds fails) test h = weighs-to n 0 (n + 4) 0 (omega arith) (omega arith)
       (h block holds fails)
 
-  branching-weighs : (how : Option Comparison) (w : Wanted) (otherwise : List Line) (x y : ℕ)
-      → Quiet W 5 0 otherwise → Quiet W 5 0 (branching how w otherwise x y)
-  branching-weighs (Some how) (Tests holds fails) otherwise x y h =
+  branching-weighs : (test : Option NumberTest) (w : Wanted) (otherwise : List Line) (x y : ℕ)
+      → Quiet W 5 0 otherwise → Quiet W 5 0 (branching test w otherwise x y)
+  branching-weighs (Some (WithSigns how)) (Tests holds fails) otherwise x y h =
       quiet-ops W 5 (Emit (op.Branch how x y holds fails) ∷ []) (refl, refl, tt) (omega arith)
-  branching-weighs (Some how) Dropped otherwise x y h = h
-  branching-weighs (Some how) Own otherwise x y h = h
-  branching-weighs (Some how) (ToLocal local) otherwise x y h = h
+  branching-weighs (Some (WithoutSigns how)) (Tests holds fails) otherwise x y h =
+      quiet-ops W 5 (Emit (op.Branchu how x y holds fails) ∷ []) (refl, refl, tt) (omega arith)
+  branching-weighs (Some test) Dropped otherwise x y h = h
+  branching-weighs (Some test) Own otherwise x y h = h
+  branching-weighs (Some test) (ToLocal local) otherwise x y h = h
   branching-weighs None w otherwise x y h = h
 
-  pub on-numbers-weighs : (c : Context) (block level : ℕ) (w : Wanted) (operator : BinaryOp) (x y : ℕ)
-      → Quiet W 5 0 (on_numbers c block level w operator x y)
-  on-numbers-weighs c block level w operator x y =
-      let ops : Spot → List Line = λ to. computing c level operator to.number x y in
-      branching-weighs (comparison_of operator) w (made c block level w int ops) x y
+  pub on-numbers-weighs : (c : Context) (block level : ℕ) (w : Wanted) (within : IntegerType) (operator : BinaryOp)
+      (x y : ℕ) → Quiet W 5 0 (on_numbers c block level w within operator x y)
+  on-numbers-weighs c block level w within operator x y =
+      let ops : Spot → List Line = λ to. computing c level within operator to.number x y in
+      branching-weighs (test_of within operator) w (made c block level w int ops) x y
       (weighs-to (2 + 3) (0 + 0) 5 0 (omega arith) (omega arith)
-      (made-weighs c block level w int ops 2 0 (λ to. computing-weighs c level operator to.number x y)))
+      (made-weighs c block level w int ops 2 0 (λ to. computing-weighs c level within operator to.number x y)))
 
   moving-add : (to x : Spot) (n : ℕ) → Quiet W 2 0 (copied to.array x.array ++ Emit (op.Add to.number x.number n) ∷ [])
   moving-add to x n = quiet-then W 1 0 1 0 (copied to.array x.array) (Emit (op.Add to.number x.number n) ∷ [])
@@ -342,10 +360,10 @@ module _ (W : ℕ) where
       (refl, refl, (refl, refl, tt)) (omega arith)
 
   both-weighs : (c : Context) (block level : ℕ) (w : Wanted) (operator : BinaryOp) (x y : Spot)
-      → Quiet W 7 0 (Emit (op.Same x.array y.array) ∷ on_numbers c block level w operator x.number y.number)
+      → Quiet W 7 0 (Emit (op.Same x.array y.array) ∷ on_numbers c block level w Int operator x.number y.number)
   both-weighs c block level w operator x y = weighs-to (suc 5) 0 7 0 (omega arith) (omega arith)
       (weighs-op W 5 0 [] (op.Same x.array y.array) _ refl refl
-      (on-numbers-weighs c block level w operator x.number y.number))
+      (on-numbers-weighs c block level w Int operator x.number y.number))
 
   pub on-pointers-weighs : (c : Context) (block level : ℕ) (w : Wanted) (operator : BinaryOp) (x y : Spot)
       → Quiet W 7 0 (on_pointers c block level w operator x y)
@@ -376,7 +394,7 @@ module _ (W : ℕ) where
   applied-weighs c block level w operator (Integer s) Void x y = quiet-ops W 7 [] tt (omega arith)
   applied-weighs c block level w operator (Pointer s) Void x y = quiet-ops W 7 [] tt (omega arith)
   applied-weighs c block level w operator (Integer s) (Integer t) x y = weighs-to 5 0 7 0 (omega arith) (omega arith)
-      (on-numbers-weighs c block level w operator x.number y.number)
+      (on-numbers-weighs c block level w (numbers_type operator s t) operator x.number y.number)
   applied-weighs c block level w operator (Pointer s) (Integer t) x y =
       on-pointer-weighs c block level w operator x y.number
   applied-weighs c block level w operator (Integer s) (Pointer t) x y =

@@ -14,7 +14,7 @@ use Rattle.c_tree.specs.declared.types.IntegerType.{IntegerType}
 use Rattle.c_tree.specs.declared.types.IntegerType.TheVariants.{Char, Int}
 use Rattle.c_tree.specs.declared.types.ValueType.{ValueType}
 use Rattle.c_tree.specs.declared.types.ValueType.TheVariants.{Void, Integer, Pointer}
-use Rattle.c_tree.specs.Operators.{step_op}
+use Rattle.c_tree.specs.Operators.{step_op, step_type, working_type}
 use Rattle.c_tree.specs.Program.{int, Expression, Constant, Start as StartOf, Read, Address, Unary, Binary, And, Or}
 use Rattle.c_tree.specs.Program.{Conditional, Cast, Assign, Update, Step, Comma, Call, Putchar, Getchar, Exit, Place}
 use Rattle.c_tree.specs.Program.{LocalPlace, StaticPlace, Target, Element, Arguments, NoMore, Argument, Local, Function}
@@ -25,7 +25,7 @@ use Rattle.lower_lines.specs.Lines.{Line, Start, Emit}
 use Rattle.lower_lines.specs.Operators.{applied, applied_blocks, computing}
 use Rattle.lower_lines.specs.Parts.{Wanted, Dropped, Own, ToLocal, Tests, Part, bits_of}
 use Rattle.lower_lines.specs.Parts.{compound, converted_lines, delivered, in_type, made, operand}
-use Rattle.lower_lines.specs.Parts.{tested_blocks, truth}
+use Rattle.lower_lines.specs.Parts.{retyped, tested_blocks, truth}
 use Rattle.lower_lines.specs.Variables.{Context, ForArray, ForNumber, ForOld, Spot, copied, local_spot, moved, own}
 use Rattle.lower_lines.specs.Variables.{temporary}
 
@@ -129,11 +129,11 @@ test_blocks_of a = a.blocks (Tests 0 0)
 abbrev pub negated : Context → Part → Part
 negated c a = compound int a.levels (condition_blocks (a.blocks Dropped) (test_blocks_of a)) (negated_lines c a)
 
-abbrev pub unary_part : Context → UnaryOp → Part → Part
-unary_part c Plus a = compound int a.levels a.blocks a.lines
-unary_part c Minus a = number_part c op.Neg a
-unary_part c Complement a = number_part c op.Not a
-unary_part c Not a = negated c a
+abbrev pub unary_part : Context → IntegerType → UnaryOp → Part → Part
+unary_part c of Plus a = compound (Integer of) a.levels a.blocks a.lines
+unary_part c of Minus a = retyped of (number_part c op.Neg a)
+unary_part c of Complement a = retyped of (number_part c op.Not a)
+unary_part c of Not a = retyped of (negated c a)
 
 abbrev pub binary_part : Context → ValueType → BinaryOp → Part → Part → Part
 binary_part c of operator a b =
@@ -355,7 +355,7 @@ assign_part c (Integer t) (AtObject k) a = assigned_object c t k a
 assign_part c of (AtObject k) a = assigned_object c Int k a
 assign_part c of (AtAddress t to) a = assigned_element c t to a
 
--- the type in which an operator gives its result: a number of an `int`, or a pointer
+-- the type in which what an operator gives is assigned: a number, which an `int` has the bits of, or a pointer
 abbrev pub result_type : ValueType → ValueType
 result_type (Pointer t) = Pointer t
 result_type (Integer t) = int
@@ -375,7 +375,8 @@ updated_element c t operator to a =
     let at = to.spot a.simple level in
     to.lines a.simple block level ++ (Emit (op.Load (bits_of t) (old_value c level) at.array at.number)
     ∷ (x.lines (block + to.blocks) (suc level)
-    ++ (computing c level operator (new_value c level) (old_value c level) (x.spot (suc level)).number
+    ++ (computing c level (working_type operator (Integer t) a.of) operator (new_value c level) (old_value c level)
+    (x.spot (suc level)).number
     ++ (Emit (op.Store (bits_of t) at.array at.number (new_value c level))
     ∷ converted_lines c (block + to.blocks + x.blocks) level wanted t (new_value c level))))))
 
@@ -428,7 +429,7 @@ stepped_element c operator t to = compound (Integer t) (max to.levels 2) (λ wan
     let one = temporary c (suc level) ForNumber in
     to.lines true block level ++ (Emit (op.Load (bits_of t) (old_value c level) at.array at.number)
     ∷ Emit (op.Const one (pos 1))
-    ∷ (computing c level (step_op operator) (new_value c level) (old_value c level) one
+    ∷ (computing c level (step_type operator (Integer t)) (step_op operator) (new_value c level) (old_value c level) one
     ++ (Emit (op.Store (bits_of t) at.array at.number (new_value c level))
     ∷ step_value c operator (block + to.blocks) level wanted t))))
 
@@ -524,7 +525,7 @@ abbrev mutual
   part_of c (StartOf element array) = start_part c element array
   part_of c (Read of place) = read_part c of (place_of c place)
   part_of c (Address element place) = address_part c element (place_of c place)
-  part_of c (Unary of operator e) = unary_part c operator (part_of c e)
+  part_of c (Unary of operator e) = unary_part c of operator (part_of c e)
   part_of c (Binary of operator a b) = binary_part c of operator (part_of c a) (part_of c b)
   part_of c (And a b) = and_part c (part_of c a) (part_of c b)
   part_of c (Or a b) = or_part c (part_of c a) (part_of c b)

@@ -6,7 +6,7 @@ use Rattle.std.specs.List.{All, AllZip, Contains}
 use Rattle.pcc_base.specs.Outcome.{End, Listing, Outcome, Value, Visit, after_visits}
 use Rattle.c_eval_laws.specs.Bounds.{CallsKeep}
 use Rattle.c_tree.specs.declared.types.IntegerType.{IntegerType}
-use Rattle.c_tree.specs.declared.types.IntegerType.TheVariants.{Short, Int}
+use Rattle.c_tree.specs.declared.types.IntegerType.TheVariants.{Short, Int, UnsignedInt}
 use Rattle.c_tree.specs.declared.types.ValueType.{ValueType}
 use Rattle.c_tree.specs.declared.types.ValueType.TheVariants.{Void, Integer, Pointer}
 use Rattle.c_tree.specs.Evaluation.{Calls, Found, InLocal, InObject, AtIndex, address_of, Falls, Breaks, Continues}
@@ -134,6 +134,7 @@ reached S (Tests holds fails) value lines h = at_start S (if is_true value then 
 abbrev pub GoesInto : ValueType → ValueType → Type 0
 GoesInto (Integer t) (Integer Short) = Unit {0}
 GoesInto (Integer t) (Integer Int) = Unit {0}
+GoesInto (Integer t) (Integer UnsignedInt) = Unit {0}
 GoesInto (Pointer t) (Pointer u) = t ≡ u
 GoesInto _ _ = ⊥
 

@@ -2,7 +2,7 @@
 use Rattle.std.specs.Prelude.{ℕ, suc, ◌+◌, Bool, true, false, pos, List, [], ◌∷◌, ◌++◌, Option, Some, None}
 use Rattle.std.specs.Prelude.{if◌then◌else◌}
 use Rattle.c_tree.specs.declared.types.IntegerType.{IntegerType}
-use Rattle.c_tree.specs.declared.types.IntegerType.TheVariants.{Char, Short, Int}
+use Rattle.c_tree.specs.declared.types.IntegerType.TheVariants.{Char, Short, Int, UnsignedInt}
 use Rattle.c_tree.specs.declared.types.ValueType.{ValueType}
 use Rattle.c_tree.specs.declared.types.ValueType.TheVariants.{Void, Integer, Pointer}
 use Rattle.flow_graph.specs.declared.op.Bits.{Bits}
@@ -43,6 +43,10 @@ compound of levels blocks lines = record {
   blocks = blocks;
   lines = lines;
 }
+
+-- a part whose value is of another integer type with the same bits
+abbrev pub retyped : IntegerType → Part → Part
+retyped of a = record a { of = Integer of }
 
 -- ---- tests (C99 6.5.3.3p5: what compares unequal to 0)
 
@@ -129,6 +133,7 @@ abbrev pub bits_of : IntegerType → Bits
 bits_of Char = Eight
 bits_of Short = Sixteen
 bits_of Int = ThirtyTwo
+bits_of UnsignedInt = ThirtyTwo
 
 -- a number from one variable of width Two to another, in an integer type
 abbrev pub converting : Context → ℕ → IntegerType → ℕ → ℕ → List Line
@@ -136,6 +141,7 @@ converting c level Char to from = Emit (op.Low (temporary c level ForByte) from)
     ∷ Emit (op.Wide to (temporary c level ForByte)) ∷ []
 converting c level Short to from = Emit (op.Low16 to from) ∷ []
 converting c level Int to from = copied to from
+converting c level UnsignedInt to from = copied to from
 
 -- a number that stands in a variable, in an integer type
 abbrev pub converted_lines : Context → ℕ → ℕ → Wanted → IntegerType → ℕ → List Line
@@ -174,6 +180,7 @@ in_type c Void a = compound Void a.levels (λ wanted. a.blocks Dropped)
 in_type c (Integer Char) a = narrowed c Char a
 in_type c (Integer Short) a = narrowed c Short a
 in_type c (Integer Int) a = a
+in_type c (Integer UnsignedInt) a = a
 in_type c (Pointer t) a = as_pointer c t a.of a
 
 -- ---- truth values

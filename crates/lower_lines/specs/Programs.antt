@@ -1,6 +1,6 @@
 -- The lines of functions, and the graphs of programs.
 use Rattle.std.specs.Prelude.{ℕ, suc, ◌+◌, List, [], ◌∷◌, ◌++◌, map, take}
-use Rattle.c_tree.specs.declared.types.IntegerType.TheVariants.{Char, Short, Int}
+use Rattle.c_tree.specs.declared.types.IntegerType.TheVariants.{Char, Short, Int, UnsignedInt}
 use Rattle.c_tree.specs.declared.types.ValueType.{ValueType}
 use Rattle.c_tree.specs.declared.types.ValueType.TheVariants.{Void, Integer, Pointer}
 use Rattle.c_tree.specs.Objects.{data_objects}
@@ -23,6 +23,7 @@ parameter_of c (Integer Char) spot word = Emit (op.Param (own c 0).number word)
 parameter_of c (Integer Short) spot word = Emit (op.Param (own c 0).number word)
     ∷ Emit (op.Low16 spot.number (own c 0).number) ∷ []
 parameter_of c (Integer Int) spot word = Emit (op.Param spot.number word) ∷ []
+parameter_of c (Integer UnsignedInt) spot word = Emit (op.Param spot.number word) ∷ []
 parameter_of c (Pointer t) spot word = Emit (op.Param spot.array word) ∷ Emit (op.Param spot.number (suc word)) ∷ []
 
 abbrev pub words_in : ValueType → ℕ

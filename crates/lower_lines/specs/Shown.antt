@@ -5,7 +5,7 @@ use Rattle.std.specs.List.{AllByRecursion}
 use Rattle.pcc_base.specs.declared.run.Width.{Width}
 use Rattle.pcc_base.specs.declared.run.Width.TheVariants.{One, Two}
 use Rattle.pcc_base.specs.Outcome.{Part, Scalar, ArrayOf, IndexOf, Listing}
-use Rattle.c_tree.specs.declared.types.IntegerType.TheVariants.{Char, Short, Int}
+use Rattle.c_tree.specs.declared.types.IntegerType.TheVariants.{Char, Short, Int, UnsignedInt}
 use Rattle.c_tree.specs.declared.types.ValueType.{ValueType}
 use Rattle.c_tree.specs.declared.types.ValueType.TheVariants.{Void, Integer, Pointer}
 use Rattle.c_tree.specs.Program as items
@@ -90,6 +90,7 @@ type_widths Void = []
 type_widths (Integer Char) = One ∷ []
 type_widths (Integer Short) = Two ∷ []
 type_widths (Integer Int) = Two ∷ []
+type_widths (Integer UnsignedInt) = Two ∷ []
 type_widths (Pointer element) = Two ∷ Two ∷ []
 
 -- the widths of the variables of locals, in the order of the locals

@@ -7,7 +7,7 @@ use Rattle.std.proofs.lemmas.List.{drop_more}
 use Rattle.std.proofs.lemmas.List.FromFn.{get_or-map-range_with_len, length-map-range_with_len}
 use Rattle.std.proofs.lemmas.Option.{get_or_from_slice_get, slice_get_within}
 use Rattle.pcc_base.specs.declared.run.Width.{Width}
-use Rattle.c_tree.specs.declared.types.IntegerType.TheVariants.{Char, Short, Int}
+use Rattle.c_tree.specs.declared.types.IntegerType.TheVariants.{Char, Short, Int, UnsignedInt}
 use Rattle.c_tree.specs.declared.types.ValueType.{ValueType}
 use Rattle.c_tree.specs.declared.types.ValueType.TheVariants.{Void, Integer, Pointer}
 use Rattle.c_tree.specs.declared.program.Local as locals
@@ -162,6 +162,7 @@ as-many name Void = refl
 as-many name (Integer Char) = refl
 as-many name (Integer Short) = refl
 as-many name (Integer Int) = refl
+as-many name (Integer UnsignedInt) = refl
 as-many name (Pointer element) = refl
 
 all-many : (ls : List Local) → length (flat_map local_variables ls) ≡ length (local_widths ls)

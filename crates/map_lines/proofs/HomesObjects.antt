@@ -11,7 +11,7 @@ use Rattle.pcc_base.specs.Names.{IsName}
 use Rattle.pcc_base.specs.Objects as objects
 use Rattle.pcc_base.proofs.Lists.{all-append, all-at}
 use Rattle.c_tree.specs.declared.types.IntegerType.{IntegerType}
-use Rattle.c_tree.specs.declared.types.IntegerType.TheVariants.{Char, Short, Int}
+use Rattle.c_tree.specs.declared.types.IntegerType.TheVariants.{Char, Short, Int, UnsignedInt}
 use Rattle.c_tree.specs.declared.types.ValueType.{ValueType}
 use Rattle.c_tree.specs.declared.types.ValueType.TheVariants.{Void, Integer, Pointer}
 use Rattle.c_tree.specs.Objects.{data_object}
@@ -38,6 +38,7 @@ element-bytes : (t : IntegerType) → (bytes_of t ≡ 1) ⊎ ((bytes_of t ≡ 2)
 element-bytes Char = inl refl
 element-bytes Short = inr (inl refl)
 element-bytes Int = inr (inr refl)
+element-bytes UnsignedInt = inr (inr refl)
 
 -- what is known of an object and its address
 abbrev pub IsHeld : StaticObject → ℕ → Type 0
@@ -112,6 +113,7 @@ variables-named name Void is = tt
 variables-named name (Integer Char) is = (is, tt)
 variables-named name (Integer Short) is = (is, tt)
 variables-named name (Integer Int) is = (is, tt)
+variables-named name (Integer UnsignedInt) is = (is, tt)
 variables-named name (Pointer element) is = (is, (is, tt))
 
 pub locals-named : (locals : List Local) → AllByRecursion (λ l. IsName l.name) locals

@@ -11,7 +11,7 @@ use Rattle.pcc_base.specs.declared.run.Width.{Width}
 use Rattle.pcc_base.specs.declared.run.Width.TheVariants.{One, Two}
 use Rattle.pcc_base.specs.Outcome.{Part, Scalar, ArrayOf, IndexOf}
 use Rattle.c_tree.specs.declared.types.IntegerType.{IntegerType}
-use Rattle.c_tree.specs.declared.types.IntegerType.TheVariants.{Char, Short, Int}
+use Rattle.c_tree.specs.declared.types.IntegerType.TheVariants.{Char, Short, Int, UnsignedInt}
 use Rattle.c_tree.specs.declared.types.ValueType.{ValueType}
 use Rattle.c_tree.specs.declared.types.ValueType.TheVariants.{Void, Integer, Pointer}
 use Rattle.c_tree.specs.Program.{Function, Local}
@@ -33,6 +33,7 @@ typed-widths name Void = refl
 typed-widths name (Integer Char) = refl
 typed-widths name (Integer Short) = refl
 typed-widths name (Integer Int) = refl
+typed-widths name (Integer UnsignedInt) = refl
 typed-widths name (Pointer element) = refl
 
 pub locals-widths : (locals : List Local) → map width_of (flat_map local_variables locals) ≡ local_widths locals
@@ -164,24 +165,26 @@ local-part b [] widths v part scalar e =
 local-part b (l ∷ locals) widths v part scalar e =
     typed l.of refl scalar.0 (λ c w. local-part c locals widths w part scalar.1) e
   where
+    number : (t : IntegerType) (width : Width) → l.of ≡ Integer t
+        → ((c w : ℕ) → part_at c (flat_map local_variables locals ++ map temporary widths) w ≡ Some part
+        → IsPartFrom c locals part)
+        → part_at b (record { width = width; named = NamesScalar l.name }
+        ∷ (flat_map local_variables locals ++ map temporary widths)) v ≡ Some part → IsPartFrom b (l ∷ locals) part
+    number t width same more f =
+        integer-case b l locals (record { width = width; named = NamesScalar l.name }) l.name
+        (flat_map local_variables locals ++ map temporary widths) v part
+        (subst (λ (t : ValueType). IsInteger t) (sym same) tt) refl more f
+
     typed : (t : ValueType) → l.of ≡ t → IsScalar t
         → ((c w : ℕ) → part_at c (flat_map local_variables locals ++ map temporary widths) w ≡ Some part
         → IsPartFrom c locals part)
         → part_at b ((typed_variables l.name t ++ flat_map local_variables locals) ++ map temporary widths) v
         ≡ Some part → IsPartFrom b (l ∷ locals) part
     typed Void same is more f = absurd is
-    typed (Integer Char) same is more f =
-        integer-case b l locals (record { width = One; named = NamesScalar l.name }) l.name
-        (flat_map local_variables locals ++ map temporary widths) v part
-        (subst (λ (t : ValueType). IsInteger t) (sym same) tt) refl more f
-    typed (Integer Short) same is more f =
-        integer-case b l locals (record { width = Two; named = NamesScalar l.name }) l.name
-        (flat_map local_variables locals ++ map temporary widths) v part
-        (subst (λ (t : ValueType). IsInteger t) (sym same) tt) refl more f
-    typed (Integer Int) same is more f =
-        integer-case b l locals (record { width = Two; named = NamesScalar l.name }) l.name
-        (flat_map local_variables locals ++ map temporary widths) v part
-        (subst (λ (t : ValueType). IsInteger t) (sym same) tt) refl more f
+    typed (Integer Char) same is more f = number Char One same more f
+    typed (Integer Short) same is more f = number Short Two same more f
+    typed (Integer Int) same is more f = number Int Two same more f
+    typed (Integer UnsignedInt) same is more f = number UnsignedInt Two same more f
     typed (Pointer element) same is more f =
         pointer-case b l locals (flat_map local_variables locals ++ map temporary widths) v part
         (subst (λ (t : ValueType). IsPointer t) (sym same) tt) more f

@@ -7,7 +7,7 @@ use Rattle.std.proofs.lemmas.List.Sums.{sum_by-cons}
 use Rattle.pcc_base.specs.declared.run.Width.{Width}
 use Rattle.pcc_base.specs.declared.run.Width.TheVariants.{One, Two}
 use Rattle.pcc_base.specs.Outcome.{Part, Scalar, ArrayOf, IndexOf}
-use Rattle.c_tree.specs.declared.types.IntegerType.TheVariants.{Char, Short, Int}
+use Rattle.c_tree.specs.declared.types.IntegerType.TheVariants.{Char, Short, Int, UnsignedInt}
 use Rattle.c_tree.specs.declared.types.ValueType.{ValueType}
 use Rattle.c_tree.specs.declared.types.ValueType.TheVariants.{Void, Integer, Pointer}
 use Rattle.c_tree.specs.Program.{Local}
@@ -219,6 +219,8 @@ one-local name Void ls tail is rest v = absurd is
 one-local name (Integer Char) ls tail is rest v = with-number name (Integer Char) One ls tail refl rest v
 one-local name (Integer Short) ls tail is rest v = with-number name (Integer Short) Two ls tail refl rest v
 one-local name (Integer Int) ls tail is rest v = with-number name (Integer Int) Two ls tail refl rest v
+one-local name (Integer UnsignedInt) ls tail is rest v =
+    with-number name (Integer UnsignedInt) Two ls tail refl rest v
 one-local name (Pointer t) ls tail is rest v = with-pointer name (Pointer t) ls tail refl rest v
 
 -- a temporary, or none

@@ -3,7 +3,7 @@
 use Rattle.std.specs.Prelude.{ℕ, List, [], ◌∷◌, length}
 use Rattle.pcc_base.specs.declared.run.Width.{Width}
 use Rattle.pcc_base.specs.declared.run.Width.TheVariants.{One, Two}
-use Rattle.c_tree.specs.declared.types.IntegerType.TheVariants.{Char, Short, Int}
+use Rattle.c_tree.specs.declared.types.IntegerType.TheVariants.{Char, Short, Int, UnsignedInt}
 use Rattle.c_tree.specs.declared.types.ValueType.{ValueType}
 use Rattle.c_tree.specs.declared.types.ValueType.TheVariants.{Void, Integer, Pointer}
 use Rattle.c_tree.specs.Program.{StaticObject, Local, LocalArray}
@@ -30,6 +30,7 @@ typed_variables name Void = []
 typed_variables name (Integer Char) = record { width = One; named = NamesScalar name } ∷ []
 typed_variables name (Integer Short) = record { width = Two; named = NamesScalar name } ∷ []
 typed_variables name (Integer Int) = record { width = Two; named = NamesScalar name } ∷ []
+typed_variables name (Integer UnsignedInt) = record { width = Two; named = NamesScalar name } ∷ []
 typed_variables name (Pointer element) =
     record { width = Two; named = NamesArray name } ∷ record { width = Two; named = NamesIndex name } ∷ []
 

@@ -35,7 +35,7 @@ fn bytes_of(t: IntegerType) -> u32
     match t {
         IntegerType::Char => 1,
         IntegerType::Short => 2,
-        IntegerType::Int => 4,
+        IntegerType::Int | IntegerType::UnsignedInt => 4,
     }
 }
 
@@ -151,7 +151,7 @@ fn print_local(out: &mut Vec<u8>, number: u32, local: &Local) -> Result<(), NoMe
         ValueType::Integer(IntegerType::Short) => {
             print_scalar(out, number, Width::Two, &local.name)
         }
-        ValueType::Integer(IntegerType::Int) => {
+        ValueType::Integer(IntegerType::Int | IntegerType::UnsignedInt) => {
             print_scalar(out, number, Width::Two, &local.name)
         }
         ValueType::Pointer(_) => print_pointer(out, number, &local.name),

@@ -3,7 +3,10 @@ use Rattle.std.proofs.lemmas.Int.{to_z-of_z}
 use Rattle.c_tree.specs.declared.expression.Expression as built
 use Rattle.c_tree.specs.declared.expression.Expression.TheViews.{the_lemmas}
 use Rattle.c_tree.specs.Erased.{expression_of}
+use Rattle.c_tree.specs.Operators.{working_type}
 use Rattle.c_tree.specs.Program as typed
+use Rattle.c_tree.specs.Program.{value_type}
+use Rattle.c_tree.specs.declared.types.IntegerType.{IntegerType}
 use Rattle.c_tree.specs.Store.{converted}
 use Rattle.c_eval.specs.AtOnce.{IsApplied, IsNumber}
 use Rattle.c_eval.proofs.Reaching.{number_binary, number_constant, number_local}
@@ -47,8 +50,15 @@ returns-in-Some-number t c =
     subst (λ (e : built.Expression). IsNumber (expression_of e) kept (Some n)) c.deref-in-Some.ensures
     (subst (λ (r : Option ℤ). IsNumber (expression_of c.deref-in-Some.result.now) kept r) c.in-Some-number.is
     c.number-in-Some.ensures) in
-    let applied : IsApplied op m n c.applied.result =
-    rw (to_z-of_z w32 c.in-Some.first (search rules), to_z-of_z w32 c.in-Some-number.second (search rules)) at
-    c.applied.ensures in
+    let within : IntegerType = working_type op (value_type x) (value_type y) in
+    let applied : IsApplied within op m n c.applied.result =
+    rw (
+      to_z-of_z w32 c.in-Some.first (search rules),
+      to_z-of_z w32 c.in-Some-number.second (search rules),
+      c.operator_on.ensures.op,
+      c.operator_on.ensures.within,
+      c.deref-in-Some-number.ensures,
+      c.deref-in-Some-number-2.ensures,
+    ) at c.applied.ensures in
     subst (λ (e : typed.Expression). IsNumber e kept c.applied.result) (sym same)
     (number_binary kept c.in-Binary.field-0 op x y m n c.applied.result first second applied)
