@@ -1,6 +1,6 @@
 -- Functions that files define are whole among what is declared outside functions, and each new one is apart from them.
-use Rattle.std.proofs.Common.{arith, ◌≡◌, refl, sym, ap, subst, ◌∙◌, true≢false, Bool, true, false, List, [], ◌∷◌, ◌++◌}
-use Rattle.std.specs.Prelude.{Option, Some, None, is_some, not, ◌&&◌, ◌||◌, if◌then◌else◌}
+use Rattle.std.proofs.Common.{◌≡◌, refl, sym, ap, subst, ◌∙◌, true≢false, Bool, true, false, List, [], ◌∷◌, ◌++◌}
+use Rattle.std.specs.Prelude.{Option, Some, None, is_some, not, ◌&&◌, ◌||◌}
 use Rattle.std.specs.List.{AllByRecursion, list_any}
 use Rattle.std.proofs.lemmas.List.{append-nil}
 use Rattle.std.proofs.lemmas.List.Elements.{filter_map-append}
@@ -21,7 +21,7 @@ use Rattle.c_typing.specs.Types.{Outside, Specified, specified, Declared, Declar
 use Rattle.c_typing.specs.Checked.{Checked, Fits, Fails, Note, Defines, fits, noted, also, if_fits, both, value_in}
 use Rattle.c_typing.specs.Checked.{or_fails}
 use Rattle.c_typing.specs.Numbering.{function_noted}
-use Rattle.c_typing.specs.Declarators.{ObjectType, object_declared, object_allowed, parameters_meant, typed_parameters}
+use Rattle.c_typing.specs.Declarators.{object_declared, object_allowed, parameters_meant, typed_parameters}
 use Rattle.c_typing.specs.Declarators.{type_faults}
 use Rattle.c_typing.specs.Expressions.{first_word}
 use Rattle.c_typing.specs.Initialisers.{contents_for}
@@ -31,7 +31,7 @@ use Rattle.c_typing.specs.Names.{meaning_of, next_file, first_scope}
 use Rattle.c_typing.specs.Statements.{stored, typed_statements, after_statements}
 use Rattle.c_typing.specs.Files.{outer_of, redeclared_faults, with_outer, result_allowed, signature_of}
 use Rattle.c_typing.specs.Files.{function_declared, function_signature, bound_function, after_function}
-use Rattle.c_typing.specs.Files.{without_value, bound_allowed, bound_outer, after_object, typed_object, typed_prototype}
+use Rattle.c_typing.specs.Files.{without_value, bound_outer, after_object, typed_object, typed_prototype}
 use Rattle.c_typing.specs.Files.{after_outer_item, typed_outer_item, after_outer_items, typed_outer_items}
 use Rattle.c_typing.specs.Files.{parameters_in}
 use Rattle.c_typing.specs.Files.{body_of, at_body, function_with, defined, in_function, typed_definition}
@@ -46,7 +46,7 @@ use Rattle.c_check.proofs.Quiet.{funs, Quiet, funs_quiet, quiet_if, quiet_also, 
 use Rattle.c_typing.proofs.FilesCountUp.{by_initialiser}
 use Rattle.c_check.proofs.Quiet.{parameters_quiet}
 use Rattle.c_check.proofs.QuietBodies.{contents_quiet, stored_quiet, statements_quiet}
-use Rattle.c_check.proofs.Outside.{object_outside, parameters_outside, statements_outside}
+use Rattle.c_check.proofs.Outside.{parameters_outside, statements_outside}
 use Rattle.c_check_laws.proofs.RowsSound.{either_false}
 use Rattle.c_check_laws.proofs.OneTypeEach.{none_false, allowed_outer as allowed_outside}
 use Rattle.c_check_laws.proofs.FilesSound.{none_first}

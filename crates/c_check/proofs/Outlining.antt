@@ -1,32 +1,29 @@
 -- What the first look at files gives: an outline, or a fault.
-use Rattle.std.proofs.Common.{arith, ◌≡◌, refl, sym, ap, subst, ◌∙◌, Bool, true, false, List, [], map}
-use Rattle.std.specs.Prelude.{Vec, Option, Some, None}
+use Rattle.std.proofs.Common.{◌≡◌, refl, sym, ap, subst, ◌∙◌, List, [], map}
+use Rattle.std.specs.Prelude.{Vec, Some, None}
 use Rattle.std.specs.List.{list_any}
 use Rattle.std.specs.declared.alloc.Global.{Global}
 use Rattle.pcc_base.specs.declared.span.Span.{Span}
 use Rattle.pcc_base.specs.declared.fault.Fault.{Fault}
-use Rattle.pcc_base.specs.declared.fault.FaultKind.TheVariants.{NoMain}
 use Rattle.pcc_base.specs.declared.refusal.Refusal.{Refusal}
 use Rattle.pcc_base.specs.declared.refusal.Refusal.TheVariants as refusals
 use Rattle.c_syntax.specs.Statements.{ExternalTree}
 use Rattle.c_tree.specs.declared.program.Function.{Function}
 use Rattle.c_typing.specs.Checked.{Checked, Fits, Fails, Note, faults_in, notes_in}
-use Rattle.c_typing.specs.Faults.{fault, least}
-use Rattle.c_typing.specs.Laws.{IsLeastOf}
+use Rattle.c_typing.specs.Faults.{least}
 use Rattle.c_typing.specs.Library.{number_among}
 use Rattle.c_typing.specs.Names.{Numbers}
 use Rattle.c_typing.specs.Numbering.{missing, numbers_of, static_objects}
 use Rattle.c_typing.specs.Typed.{judged, no_numbers, numbers_in, faults_of, notes_of, missing_bodies, has_main}
 use Rattle.c_typing.specs.Typed.{is_main, main, no_main, or_else, IsLeastFault}
 use Rattle.c_typing.proofs.FilesAgree.{numbers_change_nothing}
-use Rattle.c_typing.proofs.LeastFault.{least_is_least}
 use Rattle.c_check.specs.Tables.{object_described}
 use Rattle.c_check_expressions.specs.declared.judged.Judged.TheVariants as answers
 use Rattle.c_check_expressions.specs.Said.{IsSaid}
 use Rattle.c_check.specs.ProgramAnswers.{AreFunctions, AreJudged, IsRefusal}
 use Rattle.c_check.specs.Outlines.{IsOutline, IsOutlineOf, IsUnfinished, unfinished}
 use Rattle.c_check.specs.declared.outlines.Outline.{Outline}
-use Rattle.c_typing.proofs.OneProgram.{main_there, none_both, no_faults as none_missing, some_is_none}
+use Rattle.c_typing.proofs.OneProgram.{main_there, none_both, no_faults as none_missing}
 
 abbrev pub Functions : Type 0
 Functions = Vec Function Global

@@ -1,6 +1,6 @@
 -- Lists of parts that define no function, judged one behind the other.
-use Rattle.std.proofs.Common.{◌≡◌, refl, sym, ap, ◌∙◌, subst, List, [], ◌∷◌, ◌++◌}
-use Rattle.std.proofs.lemmas.List.{append-nil, append_assoc}
+use Rattle.std.proofs.Common.{◌≡◌, refl, sym, ap, ◌∙◌, subst, List, [], ◌++◌}
+use Rattle.std.proofs.lemmas.List.{append-nil}
 use Rattle.c_typing.specs.Checked.{Checked, Fits, Fails, Note, fits, if_fits, pair}
 use Rattle.c_check_expressions.specs.declared.judged.Judged.{Judged}
 use Rattle.c_check_expressions.specs.declared.judged.Judged.TheVariants as answers
@@ -10,7 +10,7 @@ use Rattle.c_check_expressions.proofs.Together.{pair_stands}
 use Rattle.c_check_expressions.specs.Said.{IsSaid}
 use Rattle.c_check_expressions.proofs.Answered.{grown_pair, grown_row}
 use Rattle.c_check_expressions.proofs.Gathering.{fits_same}
-use Rattle.c_check_declarations.proofs.Lists.{rejoined, notes_same}
+use Rattle.c_check_declarations.proofs.Lists.{rejoined}
 use Rattle.c_check.specs.OutsideAnswers.{AreNone, first_answered}
 pub use Rattle.c_check_declarations.proofs.Lists.{next_some as regrouped, first_rejoined as none_before}
 

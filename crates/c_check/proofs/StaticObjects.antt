@@ -1,7 +1,6 @@
 -- Objects outside functions, of parts that are answered, and the scope behind each.
-use Rattle.std.proofs.Common.{◌≡◌, refl, sym, ap, ◌∙◌, subst, ℕ, suc, ◌+◌, ◌<◌, arith, List, [], ◌∷◌, length, map, drop}
+use Rattle.std.proofs.Common.{◌≡◌, refl, sym, ap, ◌∙◌, subst, ℕ, ◌+◌, ◌<◌, List, [], length, map, drop}
 use Rattle.std.proofs.Common.{get_or, Bool, true, Option, Some, None, is_some, option_map}
-use Rattle.std.proofs.Math.Seq.{drop-cons}
 use Rattle.pcc_base.specs.declared.fault.Fault.{Fault}
 use Rattle.c_syntax.specs.declared.expression.Identifier.{Identifier}
 use Rattle.c_syntax.specs.declared.expression.Specifier.{Specifier}
