@@ -32,7 +32,8 @@ use Rattle.c_typing.specs.Library.{Entity, Library, Shared, OfFile, At}
 use Rattle.c_typing.specs.Library as library
 use Rattle.c_typing.specs.Checked.{Checked, Fits, Fails, fits, if_fits, pair, both}
 use Rattle.c_typing.specs.Names.{Meaning, Local, LocalArray, Object, ObjectArray, Function, Scope, meaning_of}
-use Rattle.c_typing.specs.Rows.{misfit, row_at, of_numbers, of_sum, of_difference, of_order, of_equality, of_conditions}
+use Rattle.c_typing.specs.Rows.{misfit, row_at, of_numbers, of_shift, of_sum, of_difference, of_order, of_equality}
+use Rattle.c_typing.specs.Rows.{of_conditions}
 use Rattle.c_typing.specs.Rows.{of_choice, is_scalar, can_assign, on_number, dereferenced, address_of_place}
 use Rattle.c_typing.specs.Rows.{place_named, assigned}
 use Rattle.c_typing.specs.Rows.{address_row, unary_row, step_row, can_cast, cast_row, types_of, binary_row, element_of}
@@ -183,9 +184,9 @@ binary_fine k raw_binary.Add at a b h =
 binary_fine k raw_binary.Subtract at a b h =
     row_fine k at (types_of a b) (of_difference (value_type a) (value_type b)) _ (λ of. h)
 binary_fine k raw_binary.ShiftLeft at a b h =
-    row_fine k at (types_of a b) (of_numbers (value_type a) (value_type b)) _ (λ of. h)
+    row_fine k at (types_of a b) (of_shift (value_type a) (value_type b)) _ (λ of. h)
 binary_fine k raw_binary.ShiftRight at a b h =
-    row_fine k at (types_of a b) (of_numbers (value_type a) (value_type b)) _ (λ of. h)
+    row_fine k at (types_of a b) (of_shift (value_type a) (value_type b)) _ (λ of. h)
 binary_fine k raw_binary.Less at a b h =
     row_fine k at (types_of a b) (of_order (value_type a) (value_type b)) _ (λ of. h)
 binary_fine k raw_binary.Greater at a b h =
@@ -237,8 +238,8 @@ to_place_fine k raw_assign.Divide at of p e h = updated_fine k _ at of p e (of_n
 to_place_fine k raw_assign.Remainder at of p e h = updated_fine k _ at of p e (of_numbers of (value_type e)) h
 to_place_fine k raw_assign.Add at of p e h = updated_fine k _ at of p e (of_sum of (value_type e)) h
 to_place_fine k raw_assign.Subtract at of p e h = updated_fine k _ at of p e (of_difference of (value_type e)) h
-to_place_fine k raw_assign.ShiftLeft at of p e h = updated_fine k _ at of p e (of_numbers of (value_type e)) h
-to_place_fine k raw_assign.ShiftRight at of p e h = updated_fine k _ at of p e (of_numbers of (value_type e)) h
+to_place_fine k raw_assign.ShiftLeft at of p e h = updated_fine k _ at of p e (of_shift of (value_type e)) h
+to_place_fine k raw_assign.ShiftRight at of p e h = updated_fine k _ at of p e (of_shift of (value_type e)) h
 to_place_fine k raw_assign.BitAnd at of p e h = updated_fine k _ at of p e (of_numbers of (value_type e)) h
 to_place_fine k raw_assign.BitXor at of p e h = updated_fine k _ at of p e (of_numbers of (value_type e)) h
 to_place_fine k raw_assign.BitOr at of p e h = updated_fine k _ at of p e (of_numbers of (value_type e)) h

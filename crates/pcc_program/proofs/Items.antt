@@ -18,7 +18,7 @@ use Rattle.c_syntax.specs.DeclarationTokens.{followed, separated, AreApart, AreI
 use Rattle.c_syntax.specs.DeclarationTokens.{declarator_tokens, part_tokens, maybe_comma_tokens, IsInitialiser}
 use Rattle.c_syntax.specs.DeclarationTokens.{IsMaybeValue}
 use Rattle.c_tree.specs.declared.types.IntegerType.{IntegerType}
-use Rattle.c_tree.specs.declared.types.IntegerType.TheVariants.{Char, Short, Int}
+use Rattle.c_tree.specs.declared.types.IntegerType.TheVariants.{Char, Short, Int, UnsignedInt}
 use Rattle.c_tree.specs.declared.types.ValueType.{ValueType}
 use Rattle.c_tree.specs.declared.types.ValueType.TheVariants.{Integer, Pointer}
 use Rattle.c_tree.specs.Program as tree
@@ -123,10 +123,13 @@ array_given : (s : Scope) (element : IntegerType) (v : InitialiserTree) → IsIn
 array_given s Char (Single e) is h = letters_given _ s (text_of e) (NoValues e) tt
 array_given s Short (Single e) is h = tt
 array_given s Int (Single e) is h = tt
+array_given s UnsignedInt (Single e) is h = tt
 array_given s Char (Braces o es commas trailing c) is h =
     letters_given _ s (only_text es) (Listed es) (scalar_given s (Braces o es commas trailing c) is h)
 array_given s Short (Braces o es commas trailing c) is h = scalar_given s (Braces o es commas trailing c) is h
 array_given s Int (Braces o es commas trailing c) is h = scalar_given s (Braces o es commas trailing c) is h
+array_given s UnsignedInt (Braces o es commas trailing c) is h =
+    scalar_given s (Braces o es commas trailing c) is h
 
 letters_fine : (n : ℕ) (b : Bool) (k : ℕ) (note : Note) (at : Span)
     → IfFits (InitialiserFine n) (if b then Fits (Text k) (note ∷ []) else fails kinds.Initialiser at)
