@@ -1,4 +1,3 @@
-use Rattle.std.proofs.Common.{refl}
 use Rattle.c_tree.specs.Erased.{expression_of}
 use Rattle.lower_builder.specs.Sites.{context_of}
 use Rattle.lower.proofs.Resting.{elements_more, elements_none}
